@@ -1,0 +1,124 @@
+// The shelf of disks that a store is built on, the world that uses it, and what is promised of the two.
+//
+// Here stand the traits that the store is proved over: `Disks`, all that the store may touch, and `World`, which adds what the
+// store never sees (who asks, the power, how often the disks may be asked). Their contracts cite specs/: Event (what is seen),
+// Shelf (the disks), Store (what whoever uses the store sees) and Promise (what is promised). The functions below them have no
+// work to do: each one's contract is a theorem about those definitions.
+ghost use mathlib.Core.Path.{_≡_};
+ghost use mathlib.Core.Bool.{Bool, true, false};
+ghost use mathlib.Core.List.{List, [], _∷_};
+ghost use Prim.Native.Nat.{ℕ, _+_, _*_, _<_, _≤_};
+ghost use lib.ListN.{length};
+ghost use lib.Dec.{T};
+ghost use Rattle.std.specs.Results.{isOk};
+ghost use Rattle.store.specs.Event.{Event, Told, Turned, Cut};
+ghost use Rattle.store.specs.Shelf.{Shelf, MayAsk, MayWrite, Reading, Writing, Syncing, Back, AtStart, allowed, takesIn, toldOf};
+ghost use Rattle.store.specs.Store.{Explained};
+ghost use Rattle.store.specs.Promise.{can, said, CoreBuilt};
+
+// What a disk answers. Dead: it has died, for ever. Dark: the power has gone, and every disk answers so from then on.
+#[derive(Clone, Copy)]
+pub enum Answer {
+    Fine,
+    Dead,
+    Dark,
+}
+
+// What may be asked of the store: sectors and disks go by their numbers.
+#[derive(Clone, Copy)]
+pub enum Ask {
+    Read(u64),
+    Write(u64),
+    Flush,
+    Size,
+    Add(u32),
+    Replace(u32, u32),
+}
+
+// What is told: it is done; a read's words stand in what is lent; so many sectors; it cannot be, and why.
+#[derive(Clone, Copy)]
+pub enum Reply {
+    Done,
+    Bytes,
+    Many(u64),
+    No(u32),
+}
+
+// The disks, 0 to 15. Whenever anything is asked of them some may die. `shelf` is what they hold, `seen` all that has happened,
+// the latest first.
+pub trait Disks {
+    ghost shelf: { Self → Shelf };
+
+    ghost seen: { Self → List Event };
+
+    // how many sectors each disk has
+    fn sectors(&self) -> u64
+        ensures { λ r. ⌜ r ≡ shelf (now (self .entry)) .sectors ⌝ };
+
+    fn read(&mut self, d: u32, s: u64, into: &mut [u64]) -> Answer
+        requires { ⌜ MayAsk (shelf (now self)) d s ⌝ ∗ ⌜ length (now into) ≡ 64 ⌝ }
+        ensures { λ r. ⌜ Reading (shelf (now (self .entry))) (seen (now (self .entry))) d s (now (into .exit)) r (shelf (now (self .exit))) (seen (now (self .exit))) ⌝ };
+
+    fn write(&mut self, d: u32, s: u64, words: &[u64]) -> Answer
+        requires { ⌜ MayWrite (shelf (now self)) d s ⌝ ∗ ⌜ length (now words) ≡ 64 ⌝ }
+        ensures { λ r. ⌜ Writing (shelf (now (self .entry))) (seen (now (self .entry))) d s (now (words .entry)) r (shelf (now (self .exit))) (seen (now (self .exit))) ⌝ };
+
+    fn sync(&mut self) -> Answer
+        requires { ⌜ 0 < shelf (now self) .left ⌝ }
+        ensures { λ r. ⌜ Syncing (shelf (now (self .entry))) (seen (now (self .entry))) r (shelf (now (self .exit))) (seen (now (self .exit))) ⌝ };
+}
+
+// What the store does not see: who asks, when the power goes and comes, and how often the disks may be asked.
+pub trait World: Disks {
+    // whether there is room to note another turn
+    fn more(&self) -> bool;
+    // so often may the disks be asked from now on
+    fn allow(&mut self, asks: u64)
+        ensures { λ _. ⌜ shelf (now (self .exit)) ≡ allowed asks (shelf (now (self .entry))) ⌝ ∗ ⌜ seen (now (self .exit)) ≡ seen (now (self .entry)) ⌝ };
+    // The power comes back. Nothing is known of what memory holds.
+    fn back(&mut self, room: &mut [u64])
+        requires { ⌜ shelf (now self) .on ≡ false ⌝ }
+        ensures { λ _. ⌜ Back (shelf (now (self .entry))) (Cut ∷ seen (now (self .entry))) (shelf (now (self .exit))) (seen (now (self .exit))) ⌝ };
+    // what is asked next, if anything, under a tag; what is to be written stands in `words`
+    fn next(&mut self, words: &mut [u64]) -> Option<(u32, Ask)>
+        ensures { λ _. ⌜ shelf (now (self .exit)) ≡ shelf (now (self .entry)) ⌝ ∗ ⌜ seen (now (self .exit)) ≡ seen (now (self .entry)) ⌝ };
+    // Something was asked, or refused (`why` is not 0); a turn has passed; something is told. What these require is the promise:
+    // all that was seen so far, with this, can be explained. One that notes it in memory may answer false for want of room:
+    // then all is over.
+    fn said(&mut self, tag: u32, a: Ask, words: &[u64], why: u32) -> bool
+        requires { ⌜ Explained can (shelf (now self) .sectors) (said why tag a (now words) ∷ seen (now self)) ⌝ ∗ ⌜ length (now words) ≡ 64 ⌝ }
+        ensures { λ r. ⌜ (T r → seen (now (self .exit)) ≡ said why tag a (now (words .entry)) ∷ seen (now (self .entry))) ⌝ ∗ ⌜ (T r → why ≡ 0 → shelf (now (self .exit)) ≡ takesIn a (shelf (now (self .entry)))) ⌝ ∗ ⌜ (T r → 0 < why → shelf (now (self .exit)) ≡ shelf (now (self .entry))) ⌝ };
+
+    fn turned(&mut self) -> bool
+        requires { ⌜ Explained can (shelf (now self) .sectors) (Turned ∷ seen (now self)) ⌝ }
+        ensures { λ r. ⌜ (T r → seen (now (self .exit)) ≡ Turned ∷ seen (now (self .entry))) ⌝ ∗ ⌜ shelf (now (self .exit)) ≡ shelf (now (self .entry)) ⌝ };
+
+    fn told(&mut self, tag: u32, a: Ask, r: Reply, words: &[u64]) -> bool
+        requires { ⌜ Explained can (shelf (now self) .sectors) (Told tag a r (now words) ∷ seen (now self)) ⌝ ∗ ⌜ length (now words) ≡ 64 ⌝ }
+        ensures { λ k. ⌜ (T k → seen (now (self .exit)) ≡ Told tag a r (now (words .entry)) ∷ seen (now (self .entry))) ⌝ ∗ ⌜ (T k → shelf (now (self .exit)) ≡ toldOf a r (shelf (now (self .entry)))) ⌝ };
+}
+
+// The power has gone: what a function over the disks ends with when one answers Dark.
+#[derive(Clone, Copy)]
+pub struct Gone;
+
+// What a turn tells: the request `ask` under `tag` has ended with `reply`.
+#[derive(Clone, Copy)]
+pub struct Ended {
+    pub tag: u32,
+    pub ask: Ask,
+    pub reply: Reply,
+}
+
+// Why serving ends: the power has gone, or all is over.
+pub enum Stop {
+    Dark,
+    Over,
+}
+
+// Reading, writing, flushing and asking the size are never taken out of what is built.
+pub fn core_built() -> u8
+    ensures { λ _. ⌜ CoreBuilt ⌝ }
+{
+    0
+}
