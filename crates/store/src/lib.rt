@@ -14,7 +14,8 @@ ghost use Rattle.std.specs.Results.{isOk};
 ghost use Rattle.store.specs.Event.{Event, Told, Turned, Cut};
 ghost use Rattle.store.specs.Shelf.{Shelf, MayAsk, MayWrite, Reading, Writing, Syncing, Back, AtStart, allowed, takesIn, toldOf};
 ghost use Rattle.store.specs.Store.{Explained};
-ghost use Rattle.store.specs.Promise.{can, said, CoreBuilt};
+ghost use Rattle.store.specs.Examples.{FirstAnswers};
+ghost use Rattle.store.specs.Promise.{can, said, OnePlace, NeverSmaller, NothingMadeUp, CoreBuilt};
 
 // What a disk answers. Dead: it has died, for ever. Dark: the power has gone, and every disk answers so from then on.
 #[derive(Clone, Copy)]
@@ -119,6 +120,34 @@ pub enum Stop {
 // Reading, writing, flushing and asking the size are never taken out of what is built.
 pub fn core_built() -> u8
     ensures { λ _. ⌜ CoreBuilt ⌝ }
+{
+    0
+}
+
+// No disk is ever in two places, and the store has 4 to 12 disks.
+pub fn one_place() -> u8
+    ensures { λ _. ⌜ OnePlace ⌝ }
+{
+    0
+}
+
+// Nothing that is seen makes the store smaller.
+pub fn never_smaller() -> u8
+    ensures { λ _. ⌜ NeverSmaller ⌝ }
+{
+    0
+}
+
+// Whatever a sector may hold is noughts, or was asked to be written there.
+pub fn nothing_made_up() -> u8
+    ensures { λ _. ⌜ NothingMadeUp ⌝ }
+{
+    0
+}
+
+// What a fresh store on small disks answers: its size, its first sector, and what it takes and turns away.
+pub fn first_answers() -> u8
+    ensures { λ _. ⌜ FirstAnswers ⌝ }
 {
     0
 }
