@@ -1,3 +1,6 @@
 pub mod Membership
 pub mod Growth
 pub mod Origin
+pub mod Truths
+pub mod Counting
+pub mod Laws

@@ -15,13 +15,6 @@ use Rattle.store.specs.declared.Ask.the-variants.{Read, Write, Flush, Size, Ad
 use Rattle.store.specs.Store.{Seen, Change, None', Adding, Replacing, Run, new, asks, refuses, dies, reads, writes, flushes, sizes, finishes, done, givesUp, tells, drops, turns, cuts, isIn, put, free, why, wrong, begins, changed, grown, isNone, sameAdd, sameReplace, asksChange, some'}
 use Rattle.store.specs.Promise.{apart}
 
-pub is-true : (b : Bool) → T b → b ≡ true
-is-true true t = refl
-is-true false t = elim t [ ]
-
-pub from-true : (b : Bool) → b ≡ true → T b
-from-true b e = subst T (sym e) tt
-
 eqb-swap : (a b : ℕ) → eqb a b ≡ false → eqb b a ≡ false
 eqb-swap a b e = ne-eqb b a (λ q. eqb-false a b e (sym q))
 

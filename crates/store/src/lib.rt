@@ -17,6 +17,8 @@ ghost use Rattle.store.specs.Store.{Explained};
 ghost use Rattle.store.specs.Examples.{FirstAnswers};
 ghost use Rattle.store.specs.Promise.{can, said, OnePlace, NeverSmaller, NothingMadeUp, CoreBuilt};
 
+mod answers;
+
 // What a disk answers. Dead: it has died, for ever. Dark: the power has gone, and every disk answers so from then on.
 #[derive(Clone, Copy)]
 pub enum Answer {
