@@ -1,3 +1,4 @@
 pub mod Turning
 pub mod Homing
 pub mod Listing
+pub mod Coding

@@ -4,6 +4,7 @@
 // structs, so that what is proved of them is proved once, below everything that asks disks.
 mod members;
 mod place;
+mod superblock;
 
 pub use members::Marks;
 pub use members::Members;
@@ -13,3 +14,7 @@ pub use place::locate;
 pub use place::no_two_sectors_in_one_place;
 pub use place::place_of;
 pub use place::places_turn;
+pub use superblock::Rebuild;
+pub use superblock::Superblock;
+pub use superblock::generation_of;
+pub use superblock::read_again;

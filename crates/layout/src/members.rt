@@ -3,8 +3,8 @@ ghost use mathlib.Core.Path.{_≡_};
 ghost use mathlib.Core.Bool.{Bool, true, false};
 ghost use mathlib.Core.List.{List, [], _∷_, _++_};
 ghost use Prim.Native.Nat.{ℕ, _+_, _<_, _≤_};
-ghost use lib.ListN.{length, getD, set};
-ghost use Rattle.layout.specs.Members.{listed, Absent, Finds, marked, withMark, withoutMark, unless};
+ghost use lib.ListN.{length, getD, set, take};
+ghost use Rattle.layout.specs.Members.{listed, Roster, Absent, Finds, marked, withMark, withoutMark, unless};
 ghost use Rattle.layout.specs.declared.members.Marks.the-variants.{Nobody};
 
 // Places whose disk is known to be dead: of a store's disks at most two are.
@@ -80,7 +80,31 @@ pub struct Members {
     ghost apart: { (p q : ℕ) → p < count → q < p → getD disks q 0 ≡ getD disks p 0 → ⊥ },
 }
 
+// Each word as a disk's number; behind the last word all stays.
+fn narrow(words: &[u64], disks: &mut [u32])
+    requires { ⌜ length (now words) ≤ length (now disks) ⌝ ∗ ⌜ ((p : ℕ) → p < length (now words) → getD (now words) p 0 < 16) ⌝ }
+    ensures { λ _. ⌜ take (length (now (words .entry))) (now (disks .exit)) ≡ now (words .entry) ⌝ }
+{
+    for p in 0..words.len() {
+        disks[p] = words[p] as u32;
+    }
+}
+
 impl Members {
+    // The members that these words are, one to a word; nothing is known of them.
+    pub fn read(words: &[u64]) -> Members
+        requires { ⌜ Roster (now words) ⌝ }
+        ensures { λ r. ⌜ listed (r .count) (r .disks) ≡ now (words .entry) ⌝ ∗ ⌜ r .dead ≡ Nobody ⌝ }
+    {
+        let mut disks = [0u32; 12];
+        narrow(words, &mut disks);
+        Members {
+            disks,
+            count: words.len(),
+            dead: Marks::Nobody,
+        }
+    }
+
     // The four that are members at first.
     pub fn first() -> Members
         ensures { λ r. ⌜ listed (r .count) (r .disks) ≡ 0 ∷ 1 ∷ 2 ∷ 3 ∷ [] ⌝ ∗ ⌜ r .dead ≡ Nobody ⌝ }
