@@ -4,3 +4,5 @@ pub mod Origin
 pub mod Truths
 pub mod Counting
 pub mod Laws
+pub mod Standing
+pub mod Heads

@@ -18,6 +18,7 @@ ghost use Rattle.store.specs.Examples.{FirstAnswers};
 ghost use Rattle.store.specs.Promise.{can, said, OnePlace, NeverSmaller, NothingMadeUp, CoreBuilt};
 
 mod answers;
+mod commit;
 
 // What a disk answers. Dead: it has died, for ever. Dark: the power has gone, and every disk answers so from then on.
 #[derive(Clone, Copy)]
