@@ -6,3 +6,4 @@ pub mod Counting
 pub mod Laws
 pub mod Standing
 pub mod Heads
+pub mod Choosing
