@@ -34,23 +34,26 @@ module _ (x : Shelf) (S : Super) (c : Columns) (k : Kept x S c) where
   pub some-alive : (p : ℕ) × (p < 3) × T (x .alive (getD (S .members) p 0))
   some-alive =
       elim (cases-bool (x .alive (getD (S .members) 0 0))) [
-        inl a ↦ (0, omega arith, true-T a)
-      | inr a ↦
-          elim (cases-bool (x .alive (getD (S .members) 1 0))) [
-            inl b ↦ (1, omega arith, true-T b)
-          | inr b ↦
-              elim (cases-bool (x .alive (getD (S .members) 2 0))) [
-                inl e ↦ (2, omega arith, true-T e)
-              | inr e ↦
-                  absurd (no-third x (k .steady) (getD (S .members) 0 0) (getD (S .members) 1 0) (getD (S .members) 2 0)
-                    (first-employed 0 (omega arith)) (first-employed 1 (omega arith)) (first-employed 2 (omega arith))
-                    (distinct 0 1 (omega arith) (omega arith) (λ z. omega arith)) (distinct 0 2 (omega arith) (omega arith) (λ z. omega arith)) (distinct 1 2 (omega arith) (omega arith) (λ z. omega arith))
-                    a b e) ] ] ]
+        | inl a ↦ (0, omega arith, true-T a)
+        | inr a ↦
+            elim (cases-bool (x .alive (getD (S .members) 1 0))) [
+              | inl b ↦ (1, omega arith, true-T b)
+              | inr b ↦
+                  elim (cases-bool (x .alive (getD (S .members) 2 0))) [
+                    | inl e ↦ (2, omega arith, true-T e)
+                    | inr e ↦
+                        absurd (no-third x (k .steady) (getD (S .members) 0 0) (getD (S .members) 1 0) (getD (S .members) 2 0)
+                        (first-employed 0 (omega arith)) (first-employed 1 (omega arith)) (first-employed 2 (omega arith))
+                        (distinct 0 1 (omega arith) (omega arith) (λ z. omega arith)) (distinct 0 2 (omega arith) (omega arith) (λ z. omega arith)) (distinct 1 2 (omega arith) (omega arith) (λ z. omega arith))
+                        a b e)
+                  ]
+            ]
+      ]
 
 -- ---- the newest that is found is one of the two
 
 module _ (x : Shelf) (S : Super) (c : Columns) (S′ : Super) (c′ : Columns) (k : Torn x S c S′ c′) (b : List ℕ) (from : UpTo S b ⊎ (superOf b ≡ S′))
-  (most : (d : ℕ) → d < 16 → T (x .alive d) → superOf (x .shown d 0) .generation ≤ superOf b .generation) where
+    (most : (d : ℕ) → d < 16 → T (x .alive d) → superOf (x .shown d 0) .generation ≤ superOf b .generation) where
   at-least : S .generation ≤ superOf b .generation
   at-least =
       let a = some-alive x S c (k .old) in
@@ -78,26 +81,35 @@ module _ {n : ℕ} {x y : Shelf} {es fs : List Event} (S : Super) (m : (d : ℕ)
   three-only : (d : ℕ) → d ≢ getD (S .members) 0 0 → d ≢ getD (S .members) 1 0 → d ≢ getD (S .members) 2 0 → (p : ℕ) → p < 3 → d ≢ getD (S .members) p 0
   three-only d i j k p l =
       elim (cases-eq p 0) [
-        inl e ↦ rw e i
-      | inr a ↦ elim (cases-eq p 1) [ inl e ↦ rw e j | inr b ↦ let e : p ≡ 2 = omega arith in rw e k ] ]
+        | inl e ↦ rw e i
+        | inr a ↦ elim (cases-eq p 1) [ inl e ↦ rw e j | inr b ↦ let e : p ≡ 2 = omega arith in rw e k ]
+      ]
 
   pub most-now : (d : ℕ) → d < 16 → Among y d 0 (λ a. superOf a .generation ≤ S .generation)
   most-now d l =
       elim (cases-eq d (getD (S .members) 0 0)) [
-        inl e ↦ written-most 0 d (omega arith) e
-      | inr i ↦
-          elim (cases-eq d (getD (S .members) 1 0)) [
-            inl e ↦ written-most 1 d (omega arith) e
-          | inr j ↦ elim (cases-eq d (getD (S .members) 2 0)) [ inl e ↦ written-most 2 d (omega arith) e | inr k ↦ unwritten-most d l (three-only d i j k) ] ] ]
+        | inl e ↦ written-most 0 d (omega arith) e
+        | inr i ↦
+            elim (cases-eq d (getD (S .members) 1 0)) [
+              | inl e ↦ written-most 1 d (omega arith) e
+              | inr j ↦ elim (cases-eq d (getD (S .members) 2 0)) [ inl e ↦ written-most 2 d (omega arith) e | inr k ↦ unwritten-most d l (three-only d i j k) ]
+            ]
+      ]
 
 pub chosen : {n : ℕ} {x y : Shelf} {es fs : List Event} (S : Super) (c : Columns) (S′ : Super) (c′ : Columns) (F : Super) → Torn x S c S′ c′ →
-  ((d : ℕ) → d < 16 → T (x .alive d) → superOf (x .shown d 0) .generation ≤ F .generation) → (F ≡ S) ⊎ (F ≡ S′) → Went n (Heading F) x es y fs → Headed F y → ((F ≡ S) × Sound y S c) ⊎ ((F ≡ S′) × Sound y S′ c′)
+    ((d : ℕ) → d < 16 → T (x .alive d) → superOf (x .shown d 0) .generation ≤ F .generation) → (F ≡ S) ⊎ (F ≡ S′) → Went n (Heading F) x es y fs → Headed F y → ((F ≡ S) × Sound y S c) ⊎ ((F ≡ S′) × Sound y S′ c′)
 chosen {n} {x} {y} S c S′ c′ F k m (inl e) w h =
-    inl (e, torn-old y S c S′ c′ (subst (λ (Q : Super). (p : ℕ) → p < 3 → Among y (getD (Q .members) p 0) 0 (λ a. superOf a ≡ Q)) e (h .three))
-      (λ d l. subst (λ (Q : Super). Among y d 0 (λ a. superOf a .generation ≤ Q .generation)) e (most-now F m w h d l)) (torn-went w S c S′ c′ (λ d s a v. (v .0, inl (v .1 ∙ e))) k))
+    inl (
+      e,
+      torn-old y S c S′ c′ (subst (λ (Q : Super). (p : ℕ) → p < 3 → Among y (getD (Q .members) p 0) 0 (λ a. superOf a ≡ Q)) e (h .three))
+          (λ d l. subst (λ (Q : Super). Among y d 0 (λ a. superOf a .generation ≤ Q .generation)) e (most-now F m w h d l)) (torn-went w S c S′ c′ (λ d s a v. (v .0, inl (v .1 ∙ e))) k),
+    )
 chosen {n} {x} {y} S c S′ c′ F k m (inr e) w h =
-    inr (e, torn-new y S c S′ c′ (subst (λ (Q : Super). (p : ℕ) → p < 3 → Among y (getD (Q .members) p 0) 0 (λ a. superOf a ≡ Q)) e (h .three))
-      (torn-went w S c S′ c′ (λ d s a v. (v .0, inr (v .1 ∙ e))) k))
+    inr (
+      e,
+      torn-new y S c S′ c′ (subst (λ (Q : Super). (p : ℕ) → p < 3 → Among y (getD (Q .members) p 0) 0 (λ a. superOf a ≡ Q)) e (h .three))
+          (torn-went w S c S′ c′ (λ d s a v. (v .0, inr (v .1 ∙ e))) k),
+    )
 
 -- ---- looking for it, disk by disk
 
@@ -114,25 +126,32 @@ module _ {n : ℕ} {b : List ℕ} {x y z : Shelf} {es fs gs : List Event} (p : L
         went = went-then (p .went) w;
         newest = record {
           most = below-more (λ e. T (z .alive e) → superOf (z .shown e 0) .generation ≤ superOf b .generation) n still-most (λ t. absurd (subst T h t));
-          from = ⊎-elim (λ u. inl (u .0, below-more (λ e. z .alive e ≡ false) n (λ e l. dead-stays w e (u .1 e l)) h)) inr (p .newest .from) } }
+          from = ⊎-elim (λ u. inl (u .0, below-more (λ e. z .alive e ≡ false) n (λ e l. dead-stays w e (u .1 e l)) h)) inr (p .newest .from);
+        };
+      }
 
   pub look-alive : (a : List ℕ) → n < 16 → z .alive n ≡ true → a ≡ z .shown n 0 → Looked (n + 1) (newer b a) x es z gs
   look-alive a m t q =
       elim (cases-bool (leb (superOf b .generation) (superOf a .generation))) [
-        inl h ↦
-          let le = leb-true (superOf b .generation) (superOf a .generation) h in
-          rw h (record {
-            went = went-then (p .went) w;
-            newest = record {
-              most = below-more (λ e. T (z .alive e) → superOf (z .shown e 0) .generation ≤ superOf a .generation) n (λ e l u. omega (arith, still-most e l u)) (λ u. rw q (omega arith));
-              from = inr (n, m, p .went .deaths .falls n (w .deaths .falls n (true-T t)), q ∙ (w .stays n 0 (λ c v. v) ∙ p .went .stays n 0 (λ c v. v))) } })
-      | inr h ↦
-          let le = leb-false (superOf b .generation) (superOf a .generation) h in
-          rw h (record {
-            went = went-then (p .went) w;
-            newest = record {
-              most = below-more (λ e. T (z .alive e) → superOf (z .shown e 0) .generation ≤ superOf b .generation) n still-most (λ u. let f = ap (λ (l : List ℕ). superOf l .generation) q in omega arith);
-              from = ⊎-elim (λ u. absurd (omega arith)) inr (p .newest .from) } }) ]
+        | inl h ↦
+            let le = leb-true (superOf b .generation) (superOf a .generation) h in
+            rw h (record {
+              went = went-then (p .went) w;
+              newest = record {
+                most = below-more (λ e. T (z .alive e) → superOf (z .shown e 0) .generation ≤ superOf a .generation) n (λ e l u. omega (arith, still-most e l u)) (λ u. rw q (omega arith));
+                from = inr (n, m, p .went .deaths .falls n (w .deaths .falls n (true-T t)), q ∙ (w .stays n 0 (λ c v. v) ∙ p .went .stays n 0 (λ c v. v)));
+              };
+            })
+        | inr h ↦
+            let le = leb-false (superOf b .generation) (superOf a .generation) h in
+            rw h (record {
+              went = went-then (p .went) w;
+              newest = record {
+                most = below-more (λ e. T (z .alive e) → superOf (z .shown e 0) .generation ≤ superOf b .generation) n still-most (λ u. let f = ap (λ (l : List ℕ). superOf l .generation) q in omega arith);
+                from = ⊎-elim (λ u. absurd (omega arith)) inr (p .newest .from);
+              };
+            })
+      ]
 
 -- ---- what is found by it
 
@@ -165,16 +184,19 @@ module _ {b : List ℕ} {x y z : Shelf} {es fs gs : List Event} (F : Super) (say
   pub recovered : Headed F z → Recovered F x z
   recovered h =
       record {
-        lit = h .lit; settled = h .settled;
+        lit = h .lit;
+        settled = h .settled;
         right = λ S c S′ c′ k.
-          chosen S c S′ c′ F (torn-looked p S c S′ c′ k) (λ d l t. subst (λ (Q : Super). superOf (y .shown d 0) .generation ≤ Q .generation) (sym says) (p .newest .most d l t)) (right S c S′ c′ k) w h }
+            chosen S c S′ c′ F (torn-looked p S c S′ c′ k) (λ d l t. subst (λ (Q : Super). superOf (y .shown d 0) .generation ≤ Q .generation) (sym says) (p .newest .most d l t)) (right S c S′ c′ k) w h;
+      }
 
   pub lapsed-later : z .on ≡ false → Lapsed x z
   lapsed-later o =
       record {
         off = o;
         torn = λ S c S′ c′ k.
-          torn-went w S c S′ c′ (λ d s a v. (v .0, ⊎-elim (λ e. inl (v .1 ∙ e)) (λ e. inr (v .1 ∙ e)) (right S c S′ c′ k))) (torn-looked p S c S′ c′ k) }
+            torn-went w S c S′ c′ (λ d s a v. (v .0, ⊎-elim (λ e. inl (v .1 ∙ e)) (λ e. inr (v .1 ∙ e)) (right S c S′ c′ k))) (torn-looked p S c S′ c′ k);
+      }
 
 pub lapsed-first : {n : ℕ} {x y : Shelf} {es fs : List Event} → Went n Nowhere x es y fs → y .on ≡ false → Lapsed x y
 lapsed-first w o = record { off = o; torn = λ S c S′ c′ k. torn-went w S c S′ c′ (λ d s a v. absurd v) k }

@@ -7,3 +7,5 @@ pub mod Laws
 pub mod Standing
 pub mod Heads
 pub mod Choosing
+pub mod Carried
+pub mod Upward

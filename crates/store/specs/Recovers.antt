@@ -60,6 +60,7 @@ Moved d from to x y = (a : List ℕ) → Shows x d from a → Shows y d to a
 -- so does each of the first n of these disks
 pub record Moving (n : ℕ) (ds : List ℕ) (from to : ℕ) (x : Shelf) (es : List Event) (y : Shelf) (fs : List Event) : Type 0 where
   pub went : Went (n + n) (Level to) x es y fs
+  pub lit : x .on ≡ true → y .on ≡ true
   pub moved : (p : ℕ) → p < n → Moved (getD ds p 0) from to x y
 
 -- only the place of the journalled stripe was written

@@ -19,6 +19,7 @@ ghost use Rattle.store.specs.Promise.{can, said, OnePlace, NeverSmaller, Nothi
 
 mod answers;
 mod commit;
+mod journal;
 mod recovery;
 
 // What a disk answers. Dead: it has died, for ever. Dark: the power has gone, and every disk answers so from then on.

@@ -13,6 +13,7 @@ use crate::Disks;
 use crate::Gone;
 use crate::answers::read_sector;
 use crate::commit::head;
+use crate::journal::bring;
 use layout::Superblock;
 use layout::generation_of;
 
@@ -55,5 +56,19 @@ fn recover<D: Disks>(d: &mut D, best: &mut [u64], other: &mut [u64]) -> Result<S
     look(d, best, other)?;
     let found = Superblock::decode(best);
     head(d, &found, other)?;
+    Ok(found)
+}
+
+// All that coming up does with the disks.
+pub fn come_up<D: Disks>(d: &mut D, best: &mut [u64], other: &mut [u64]) -> Result<Superblock, Gone>
+    requires left { ⌜ 46 ≤ shelf (now d) .left ⌝ }
+    requires lent { ⌜ length (now best) ≡ 64 ⌝ ∗ ⌜ length (now other) ≡ 64 ⌝ }
+    requires held { ⌜ Open (shelf (now d)) ⌝ }
+    ensures deaths { λ _. ⌜ Deaths (shelf (now (d .entry))) (seen (now (d .entry))) (shelf (now (d .exit))) (seen (now (d .exit))) ⌝ }
+    ensures spent { λ _. ⌜ shelf (now (d .entry)) .left ≤ shelf (now (d .exit)) .left + 46 ⌝ }
+    ensures how { λ r. ⌜ Cases r (λ b. Up (says b) (shelf (now (d .entry))) (shelf (now (d .exit))) × (b .members .dead ≡ Nobody)) (λ _. Down (shelf (now (d .entry))) (shelf (now (d .exit)))) ⌝ }
+{
+    let found = recover(d, best, other)?;
+    bring(d, &found, best)?;
     Ok(found)
 }

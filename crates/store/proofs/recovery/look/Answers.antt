@@ -31,13 +31,15 @@ pub returns-in-Break-read-sector : need.returns-in-Break-read-sector
 returns-in-Break-read-sector g c =
     record {
       went = went-longer (omega arith) (went-then (c .loop-i .inv .went) (c .read-sector .ensures .went));
-      how = cases-from-err (c .from-residual .result) _ _ (c .from-residual .ensures .0) (λ _. c .in-Break-read-sector .ensures tt .how) }
+      how = cases-from-err (c .from-residual .result) _ _ (c .from-residual .ensures .0) (λ _. c .in-Break-read-sector .ensures tt .how);
+    }
 
 pub loop-i-again : need.loop-i-again
 loop-i-again g c =
     let h = c .in-Continue-read-sector .ensures tt .how in
     elim (c .if-branch .came) [
-      then-branch w ↦
-        rw (w .best-is, w .keep-newer .ensures)
-        (look-alive (c .loop-i .inv) (c .read-sector .ensures .went) _ (omega arith) (h .alive ∙ w .if-branch .taken) (h .shows (true-T (w .if-branch .taken))))
-    | else-branch w ↦ rw (w .best-is) (look-dead (c .loop-i .inv) (c .read-sector .ensures .went) (h .alive ∙ w .if-branch .left)) ]
+      | then-branch w ↦
+          rw (w .best-is, w .keep-newer .ensures)
+          (look-alive (c .loop-i .inv) (c .read-sector .ensures .went) _ (omega arith) (h .alive ∙ w .if-branch .taken) (h .shows (true-T (w .if-branch .taken))))
+      | else-branch w ↦ rw (w .best-is) (look-dead (c .loop-i .inv) (c .read-sector .ensures .went) (h .alive ∙ w .if-branch .left))
+    ]
