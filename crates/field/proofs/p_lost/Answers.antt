@@ -1,0 +1,15 @@
+use mathlib.Core.Path.{_≡_, sym, _∙_}
+use Prim.Native.Nat.{ℕ, _+_}
+use native.Mathlib.Omega.{arith}
+use lib.ListN.{length}
+use Rattle.field.specs.Rows.{sectors}
+use Rattle.field.proofs.Rests.{length-sectors}
+use Rattle.field.proofs.Lost.{had-p}
+use Rattle.field.proofs.p_lost.Needs as need
+
+pub returns : need.returns
+returns c = λ ds g few at.
+    let n : length ds ≡ c .args .n = sym (at .many) ∙ length-sectors (c .args .n) (c .args .cells .now) in
+    had-p ds g (c .args .a) (c .args .n) (sectors (c .args .n) (c .args .cells .now)) (c .args .sp .now) (c .args .sq .now) at (omega arith) (sym n)
+    (c .gather .last .q) (c .gather .last .p) (c .add-into .last .acc) (c .divide .last .acc) (c .add-into-2 .last .acc)
+    (c .gather .ensures .1) (c .gather .ensures .0) (c .add-into .ensures) (c .divide .ensures) (c .add-into-2 .ensures)
