@@ -1,7 +1,0 @@
-use mathlib.Core.Path.{_≡_}
-use Prim.Native.Nat.{_/_, _^_, _-_}
-use Rattle.field.specs.Field.{mulN}
-use Rattle.field.proofs.product.Given as given
-
-abbrev pub Inv-loop-j : given.InvT-loop-j
-Inv-loop-j l = l .r ≡ mulN (l .j) (l .c / 2 ^ (8 - l .j)) (l .v)

@@ -1,0 +1,9 @@
+use mathlib.Core.Path.{refl}
+use native.Mathlib.Omega.{arith}
+use Rattle.field.proofs.Mending.{restores-Q}
+use Rattle.field.proofs.stripe.from_q.Needs as need
+
+pub returns : need.returns
+returns c =
+    restores-Q (c .args .k) (c .args .i) (c .args .stripe .now) (c .write .last .stripe) (c .write-2 .last .stripe) _ (c .left .last .p) (c .left .last .q) (c .lower .last .words)
+    (omega arith) (omega arith) (omega arith) (omega arith) refl (c .write .ensures) (c .left .ensures) (c .lower .ensures) (c .write-2 .ensures)

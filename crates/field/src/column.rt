@@ -1,0 +1,88 @@
+// A column's sector of 64 words: sums, products by a constant, and its part in P and Q.
+// It touches nothing but the words that it is lent.
+ghost use mathlib.Core.List.{map};
+ghost use mathlib.Core.Path.{_≡_};
+ghost use Prim.Native.Nat.{ℕ, _+_, _-_, _<_, _≤_};
+ghost use lib.ListN.{length, replicate};
+ghost use Rattle.field.specs.Field.{power, neighbour};
+ghost use Rattle.field.specs.Word.{double8, product8};
+ghost use Rattle.field.specs.Column.{add, Solves};
+use crate::word;
+
+// Noughts all over.
+pub fn clear(words: &mut [u64])
+    ensures { λ _. ⌜ now (words .exit) ≡ replicate (length (now (words .entry))) 0 ⌝ }
+{
+    for i in 0..words.len() {
+        words[i] = 0;
+    }
+}
+
+// Adds `other` to `to`.
+pub fn add_to(to: &mut [u64], other: &[u64])
+    requires { ⌜ length (now to) ≡ length (now other) ⌝ }
+    ensures { λ _. ⌜ now (to .exit) ≡ add (now (to .entry)) (now (other .entry)) ⌝ }
+{
+    for i in 0..to.len() {
+        to[i] ^= other[i];
+    }
+}
+
+// Twice `to`, and `other` added to it.
+pub fn double_and_add(to: &mut [u64], other: &[u64])
+    requires { ⌜ length (now to) ≡ length (now other) ⌝ }
+    ensures { λ _. ⌜ now (to .exit) ≡ add (map double8 (now (to .entry))) (now (other .entry)) ⌝ }
+{
+    for i in 0..to.len() {
+        to[i] = word::doubled(to[i]) ^ other[i];
+    }
+}
+
+// Each element times `c`.
+pub fn scale(words: &mut [u64], c: u8)
+    ensures { λ _. ⌜ now (words .exit) ≡ map (product8 c) (now (words .entry)) ⌝ }
+{
+    for i in 0..words.len() {
+        words[i] = word::product(c, words[i]);
+    }
+}
+
+// 1 / 2^x for each data column x.
+const DOWN: [u8; 10] = [1, 142, 71, 173, 216, 108, 54, 27, 131, 207];
+
+fn down(x: usize) -> u8
+    requires { ⌜ x < 10 ⌝ }
+    ensures { λ r. ⌜ r ≡ power (255 - x) ⌝ }
+{
+    DOWN[x]
+}
+
+// 1 / (1 + 2^d) for each difference d of two data columns, from 1 on.
+const APART: [u8; 9] = [244, 167, 157, 114, 237, 95, 84, 160, 169];
+
+fn apart(d: usize) -> u8
+    requires { ⌜ 1 ≤ d ⌝ ∗ ⌜ d ≤ 9 ⌝ }
+    ensures { λ r. ⌜ r ≡ power (255 - neighbour d) ⌝ }
+{
+    APART[d - 1]
+}
+
+// Divides by 2^x.
+pub fn lower(words: &mut [u64], x: usize)
+    requires { ⌜ x < 10 ⌝ }
+    ensures { λ _. ⌜ now (words .exit) ≡ map (product8 (power (255 - x))) (now (words .entry)) ⌝ }
+{
+    scale(words, down(x));
+}
+
+// The columns x and y from their sum in `p` and the sum of their multiples by 2^x and 2^y in `q`.
+pub fn solve(p: &mut [u64], q: &mut [u64], x: usize, y: usize)
+    requires apart { ⌜ x < y ⌝ ∗ ⌜ y < 10 ⌝ }
+    requires lent { ⌜ length (now p) ≡ 64 ⌝ ∗ ⌜ length (now q) ≡ 64 ⌝ }
+    ensures { λ _. ⌜ Solves x y (now (p .entry)) (now (q .entry)) (now (p .exit)) (now (q .exit)) ⌝ }
+{
+    lower(q, x);
+    add_to(q, p);
+    scale(q, apart(y - x));
+    add_to(p, q);
+}
