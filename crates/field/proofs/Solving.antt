@@ -47,12 +47,12 @@ module _ (x y a b p q : ℕ) (xy : x < y) (few : y < 10) (ha : a < 256) (hb : b 
       ∙ ap (λ (z : ℕ). bitXor z c) (sym (product-one b hb)) ∙ sym (sum-product 1 (power d) b (lit< tt) (power-lt d) hb)
       ∙ ap (λ (z : ℕ). product z b) (neighbour-is d (omega arith) (omega arith))
 
-  second : product (power (255 - neighbour (y - x))) (sum (product (power (255 - x)) q) p) ≡ b
+  pub second : product (power (255 - neighbour (y - x))) (sum (product (power (255 - x)) q) p) ≡ b
   second =
       ap (product (power (255 - neighbour (y - x)))) both
       ∙ power-undone (neighbour (y - x)) b (neighbour-le (y - x) (omega arith) (omega arith)) hb
 
-  first : (r : ℕ) → r ≡ b → sum p r ≡ a
+  pub first : (r : ℕ) → r ≡ b → sum p r ≡ a
   first r e = ap₂ bitXor ep e ∙ xor-assoc a b b ∙ ap (bitXor a) (xor-self b) ∙ xor-zero-r a
 
 -- and so of two sectors
