@@ -10,7 +10,7 @@ use lib.Dec.{T, eqb, eqb→eq, lit<}
 use lib.ListN.{length, getD, replicate}
 use Rattle.std.proofs.shelf.Lists.{getD-replicate, getD-past}
 use Rattle.std.proofs.shelf.Tests.{cases-lt, cases-eq}
-use Rattle.field.specs.Field.{sum, double, productN, product, power, neighbour}
+use Rattle.field.specs.Field.{sum, double, productBy, product, power, neighbour}
 use Rattle.field.specs.Word.{byte}
 use Rattle.field.specs.Column.{Sector, noughts, Good, byteAt, total, IsP, IsQ}
 use Rattle.field.specs.Stripe.{dataOf, Codeword, Blank, Grows, Unique, six, Example}
@@ -192,7 +192,7 @@ P-test : T (all 8 (λ b. eqb (byte b 12) (total 4 (λ j. byte b (getD (7 ∷ 8 �
 P-test = tt
 
 Q-test : T (all 8 (λ b. eqb (byte b 99) (total 4 (λ j. product (power j) (byte b (getD (7 ∷ 8 ∷ 9 ∷ 10 ∷ []) j 0))))))
-unfolding power double productN
+unfolding power double productBy
 Q-test = tt
 
 good-six : (i : ℕ) → Good (six i)

@@ -8,8 +8,8 @@ use native.Mathlib.Omega.{arith}
 use lib.Dec.{T, eqb, eqb→eq, lit<}
 use lib.Bits.{bitAnd, bitXor, xor-lt, and-le-r}
 use Rattle.std.proofs.shelf.Bits.{shr-shr, shr-below}
-use Rattle.field.specs.Field.{sum, double, pick, productN, product}
-use Rattle.field.specs.Word.{byte, carried, double8, product8N, product8, EightElements}
+use Rattle.field.specs.Field.{sum, double, pick, productBy, product}
+use Rattle.field.specs.Word.{byte, carried, double8, product8, EightElements}
 use Rattle.field.proofs.Linear.{Linear, linear-zero, linear-after, linear-shr, linear-mod, all, all-at, agree, ext}
 use Rattle.field.proofs.Products.{linear-double8, double-is, pick-lt}
 
@@ -44,10 +44,10 @@ double8-lt v =
     let hn = and-le-r (v / 128) 0x0101_0101_0101_0101 in
     sums-lt (m * 2) n (n * 4) (n * 8) (n * 16) (omega arith) (omega arith) (omega arith) (omega arith) (omega arith)
 
-pub product8N-lt : (n c v : ℕ) → v < 2 ^ 64 → product8N n c v < 2 ^ 64
-unfolding product8N
+pub product8N-lt : (n c v : ℕ) → v < 2 ^ 64 → productBy double8 n c v < 2 ^ 64
+unfolding productBy
 product8N-lt zero c v h = lit< tt
-product8N-lt (suc n) c v h = xor-lt 64 (pick (c % 2) v) (double8 (product8N n (c / 2) v)) (pick-lt 64 (c % 2) v h) (double8-lt (product8N n (c / 2) v))
+product8N-lt (suc n) c v h = xor-lt 64 (pick (c % 2) v) (double8 (productBy double8 n (c / 2) v)) (pick-lt 64 (c % 2) v h) (double8-lt (productBy double8 n (c / 2) v))
 
 -- ---- products
 
@@ -55,12 +55,12 @@ byte-pick : (bit b v : ℕ) → byte b (pick bit v) ≡ pick bit (byte b v)
 byte-pick zero b v = linear-zero (byte b) (linear-byte b)
 byte-pick (suc bit) b v = refl
 
-pub byte-product : (n c v : ℕ) → v < 2 ^ 64 → (b : ℕ) → b < 8 → byte b (product8N n c v) ≡ productN n c (byte b v)
-unfolding product8N productN
+pub byte-product : (n c v : ℕ) → v < 2 ^ 64 → (b : ℕ) → b < 8 → byte b (productBy double8 n c v) ≡ productBy double n c (byte b v)
+unfolding productBy
 byte-product zero c v h b hb = linear-zero (byte b) (linear-byte b)
 byte-product (suc n) c v h b hb =
-    linear-byte b (pick (c % 2) v) (double8 (product8N n (c / 2) v))
-    ∙ ap₂ bitXor (byte-pick (c % 2) b v) (byte-double (product8N n (c / 2) v) (product8N-lt n (c / 2) v h) b hb ∙ ap double (byte-product n (c / 2) v h b hb))
+    linear-byte b (pick (c % 2) v) (double8 (productBy double8 n (c / 2) v))
+    ∙ ap₂ bitXor (byte-pick (c % 2) b v) (byte-double (productBy double8 n (c / 2) v) (product8N-lt n (c / 2) v h) b hb ∙ ap double (byte-product n (c / 2) v h b hb))
 
 -- ---- a word by its elements
 

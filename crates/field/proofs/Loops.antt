@@ -11,8 +11,7 @@ use lib.ListN.{getD, length, set, take, drop}
 use Rattle.std.proofs.shelf.Lists.{take-all, drop-all, append-nil, getD-default}
 use Rattle.std.proofs.shelf.Edits.{map-over-more}
 use Rattle.std.proofs.shelf.Bits.{shr-shr}
-use Rattle.field.specs.Field.{pick}
-use Rattle.field.specs.Word.{double8, product8N}
+use Rattle.field.specs.Field.{pick, productBy}
 use Rattle.field.specs.Column.{Sector, add}
 
 -- ---- a map in place
@@ -73,15 +72,16 @@ module _ (f : ℕ → ℕ) where
 
 -- ---- the product, from the highest bit on
 
-pub product-none : (c v : ℕ) → 0 ≡ product8N 0 (c / 2 ^ (8 - 0)) v
-unfolding product8N
-product-none c v = refl
+module _ (f : ℕ → ℕ) where
+  pub product-none : (c v : ℕ) → 0 ≡ productBy f 0 (c / 2 ^ (8 - 0)) v
+  unfolding productBy
+  product-none c v = refl
 
-pub product-more : (j c v : ℕ) → j < 8
-    → bitXor (pick (c / 2 ^ (7 - j) % 2) v) (double8 (product8N j (c / 2 ^ (8 - j)) v)) ≡ product8N (j + 1) (c / 2 ^ (8 - (j + 1))) v
-unfolding product8N
-product-more j c v h =
-    let e : 7 - j + 1 ≡ 8 - j = omega arith in
-    let e′ : 7 - j ≡ 8 - (j + 1) = omega arith in
-    ap (λ (x : ℕ). bitXor (pick (c / 2 ^ (7 - j) % 2) v) (double8 (product8N j x v))) (sym (shr-shr c (7 - j) 1 ∙ ap (λ (n : ℕ). c / 2 ^ n) e))
-    ∙ ap₂ (λ (m n : ℕ). product8N m (c / 2 ^ n) v) (sym (add-one j)) e′
+  pub product-more : (j c v : ℕ) → j < 8
+      → bitXor (pick (c / 2 ^ (7 - j) % 2) v) (f (productBy f j (c / 2 ^ (8 - j)) v)) ≡ productBy f (j + 1) (c / 2 ^ (8 - (j + 1))) v
+  unfolding productBy
+  product-more j c v h =
+      let e : 7 - j + 1 ≡ 8 - j = omega arith in
+      let e′ : 7 - j ≡ 8 - (j + 1) = omega arith in
+      ap (λ (x : ℕ). bitXor (pick (c / 2 ^ (7 - j) % 2) v) (f (productBy f j x v))) (sym (shr-shr c (7 - j) 1 ∙ ap (λ (n : ℕ). c / 2 ^ n) e))
+      ∙ ap₂ (λ (m n : ℕ). productBy f m (c / 2 ^ n) v) (sym (add-one j)) e′

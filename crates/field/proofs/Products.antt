@@ -7,8 +7,8 @@ use native.Mathlib.Nat.{le-of-suc-le-suc, not-suc-le-zero, mod-lt}
 use native.Mathlib.Omega.{arith}
 use lib.Dec.{T, eqb, ltb, eqb→eq, ltb→lt, lit<}
 use lib.Bits.{bitAnd, bitXor, xor-self, xor-comm, xor-assoc, xor-zero-r, xor-lt}
-use Rattle.field.specs.Field.{sum, double, pick, productN, product, squares, inverse, SumsAreAGroup, ProductsAreAField}
-use Rattle.field.specs.Word.{carried, double8, product8N, product8}
+use Rattle.field.specs.Field.{sum, double, pick, productBy, product, squares, inverse, SumsAreAGroup, ProductsAreAField}
+use Rattle.field.specs.Word.{carried, double8, product8}
 use Rattle.field.proofs.Linear.{Linear, linear-id, linear-after, linear-sum, linear-and, linear-shl, linear-shr, linear-mod, all, all-at, agree, ext, ext′}
 
 pub sums-are-a-group : SumsAreAGroup
@@ -34,12 +34,12 @@ linear-pick : (b : ℕ) → Linear (pick b)
 linear-pick zero a c = refl
 linear-pick (suc b) a c = refl
 
-pub linear-product8N : (n c : ℕ) → Linear (product8N n c)
-unfolding product8N
+pub linear-product8N : (n c : ℕ) → Linear (productBy double8 n c)
+unfolding productBy
 linear-product8N zero c = λ a b. refl
 linear-product8N (suc n) c =
-    linear-sum (pick (c % 2)) (λ v. double8 (product8N n (c / 2) v)) (linear-pick (c % 2))
-    (linear-after double8 (product8N n (c / 2)) linear-double8 (linear-product8N n (c / 2)))
+    linear-sum (pick (c % 2)) (λ v. double8 (productBy double8 n (c / 2) v)) (linear-pick (c % 2))
+    (linear-after double8 (productBy double8 n (c / 2)) linear-double8 (linear-product8N n (c / 2)))
 
 -- on the left too
 
@@ -56,12 +56,12 @@ pick-sum (suc (suc a)) b v ha hb = not-digit ha
 linear-bit : (v : ℕ) → Linear (λ c. pick (c % 2) v)
 linear-bit v a b = ap (λ (x : ℕ). pick x v) (linear-mod 1 a b) ∙ pick-sum (a % 2) (b % 2) v (mod-lt a (lit< tt)) (mod-lt b (lit< tt))
 
-linear-left : (n v : ℕ) → Linear (λ c. product8N n c v)
-unfolding product8N
+linear-left : (n v : ℕ) → Linear (λ c. productBy double8 n c v)
+unfolding productBy
 linear-left zero v = λ a b. refl
 linear-left (suc n) v =
-    linear-sum (λ c. pick (c % 2) v) (λ c. double8 (product8N n (c / 2) v)) (linear-bit v)
-    (linear-after double8 (λ c. product8N n (c / 2) v) linear-double8 (linear-after (λ c. product8N n c v) (λ c. c / 2) (linear-left n v) (linear-shr 1)))
+    linear-sum (λ c. pick (c % 2) v) (λ c. double8 (productBy double8 n (c / 2) v)) (linear-bit v)
+    (linear-after double8 (λ c. productBy double8 n (c / 2) v) linear-double8 (linear-after (λ c. productBy double8 n c v) (λ c. c / 2) (linear-left n v) (linear-shr 1)))
 
 -- ---- a byte alone: what is done to words is what the field does
 
@@ -83,17 +83,17 @@ pub pick-lt : (n b v : ℕ) → v < 2 ^ n → pick b v < 2 ^ n
 pick-lt n zero v h = omega arith
 pick-lt n (suc b) v h = h
 
-pub productN-lt : (n a b : ℕ) → b < 256 → productN n a b < 256
-unfolding productN
+pub productN-lt : (n a b : ℕ) → b < 256 → productBy double n a b < 256
+unfolding productBy
 productN-lt zero a b h = lit< tt
 productN-lt (suc n) a b h =
-    xor-lt 8 (pick (a % 2) b) (double (productN n (a / 2) b)) (pick-lt 8 (a % 2) b h) (double-lt (productN n (a / 2) b) (productN-lt n (a / 2) b h))
+    xor-lt 8 (pick (a % 2) b) (double (productBy double n (a / 2) b)) (pick-lt 8 (a % 2) b h) (double-lt (productBy double n (a / 2) b) (productN-lt n (a / 2) b h))
 
-productN-is : (n a b : ℕ) → b < 256 → productN n a b ≡ product8N n a b
-unfolding productN product8N
+productN-is : (n a b : ℕ) → b < 256 → productBy double n a b ≡ productBy double8 n a b
+unfolding productBy
 productN-is zero a b h = refl
 productN-is (suc n) a b h =
-    ap (bitXor (pick (a % 2) b)) (double-is (productN n (a / 2) b) (productN-lt n (a / 2) b h) ∙ ap double8 (productN-is n (a / 2) b h))
+    ap (bitXor (pick (a % 2) b)) (double-is (productBy double n (a / 2) b) (productN-lt n (a / 2) b h) ∙ ap double8 (productN-is n (a / 2) b h))
 
 is : (a b : ℕ) → b < 256 → product a b ≡ product8 a b
 is a b h = productN-is 8 a b h
@@ -104,15 +104,15 @@ product-lt a b h = productN-lt 8 a b h
 -- ---- the laws, for words that have one byte
 
 comm-test : T (all 8 (λ i. agree (product8 (2 ^ i)) (λ b. product8 b (2 ^ i)) 8))
-unfolding product8N double8
+unfolding productBy double8
 comm-test = tt
 
 assoc-test : T (all 8 (λ i. all 8 (λ j. agree (λ c. product8 (product8 (2 ^ i) (2 ^ j)) c) (λ c. product8 (2 ^ i) (product8 (2 ^ j) c)) 8)))
-unfolding product8N double8
+unfolding productBy double8
 assoc-test = tt
 
 one-test : T (agree (product8 1) (λ b. b) 8)
-unfolding product8N double8
+unfolding productBy double8
 one-test = tt
 
 comm8 : (a b : ℕ) → a < 256 → b < 256 → product8 a b ≡ product8 b a
@@ -156,14 +156,14 @@ pub product-one : (a : ℕ) → a < 256 → product 1 a ≡ a
 product-one a h = is 1 a h ∙ ext (product8 1) (λ b. b) (linear-product8N 8 1) linear-id 8 one-test a h
 
 two-test : T (all 256 (λ a. eqb (product 2 a) (double a)))
-unfolding productN double
+unfolding productBy double
 two-test = tt
 
 pub product-two : (a : ℕ) → a < 256 → product 2 a ≡ double a
 product-two a h = eqb→eq (product 2 a) (double a) (all-at 256 (λ a. eqb (product 2 a) (double a)) two-test a h)
 
 inverse-test : T (all 255 (λ a. eqb (product (suc a) (inverse (suc a))) 1))
-unfolding productN double inverse
+unfolding productBy double inverse
 inverse-test = tt
 
 product-inverse : (a : ℕ) → a < 256 → 0 < a → product a (inverse a) ≡ 1

@@ -12,7 +12,7 @@ use lib.ListN.{length, getD, set, replicate}
 use Rattle.std.proofs.shelf.Lists.{same-lists, getD-default, length-replicate, length-map}
 use Rattle.std.proofs.shelf.Tests.{cases-eq}
 use Rattle.field.specs.Field.{sum, double, product, power}
-use Rattle.field.specs.Word.{byte, double8, product8N, product8}
+use Rattle.field.specs.Word.{byte, double8, product8}
 use Rattle.field.specs.Column.{Sector, noughts, Good, byteAt, total, add}
 use Rattle.field.proofs.Linear.{Linear, linear-zero, xor-swap}
 use Rattle.field.proofs.Products.{linear-product8N}

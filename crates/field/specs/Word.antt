@@ -1,9 +1,9 @@
 -- A word of 64 bits is eight elements side by side, and what is done to it here is done to each of them apart.
 -- Assumes nothing.
 use mathlib.Core.Path.{_≡_}
-use Prim.Native.Nat.{ℕ, zero, suc, _+_, _*_, _/_, _%_, _^_, _<_}
+use Prim.Native.Nat.{ℕ, _+_, _*_, _/_, _%_, _^_, _<_}
 use lib.Bits.{bitAnd, bitXor}
-use Rattle.field.specs.Field.{sum, double, pick, product}
+use Rattle.field.specs.Field.{sum, double, productBy, product}
 
 -- element b of a word, the lowest first
 abbrev pub byte : ℕ → ℕ → ℕ
@@ -17,13 +17,9 @@ carried c = sum c (sum (c * 4) (sum (c * 8) (c * 16)))
 unfoldable pub double8 : ℕ → ℕ
 double8 v = sum (bitAnd v 0x7f7f_7f7f_7f7f_7f7f * 2) (carried (bitAnd (v / 128) 0x0101_0101_0101_0101))
 
--- each element times what the n low bits of c are
-unfoldable pub product8N : ℕ → ℕ → ℕ → ℕ
-product8N zero c v = 0
-product8N (suc n) c v = sum (pick (c % 2) v) (double8 (product8N n (c / 2) v))
-
+-- each element times c
 abbrev pub product8 : ℕ → ℕ → ℕ
-product8 c v = product8N 8 c v
+product8 c v = productBy double8 8 c v
 
 -- the law: element by element, words are added, doubled and multiplied as the field's elements are
 pub record EightElements : Type 0 where
