@@ -104,7 +104,7 @@ fn from_both(stripe: &mut [u64], k: usize, a: usize, b: usize)
 }
 
 // Columns a and b from the others.
-fn mend_two(stripe: &mut [u64], k: usize, a: usize, b: usize)
+pub fn mend_two(stripe: &mut [u64], k: usize, a: usize, b: usize)
     requires few { ⌜ 4 ≤ k ⌝ ∗ ⌜ k ≤ 12 ⌝ ∗ ⌜ a < b ⌝ ∗ ⌜ b < k ⌝ }
     requires lent { ⌜ length (now stripe) ≡ 64 * k ⌝ }
     ensures { λ _. ⌜ MendsTwo k a b (now (stripe .entry)) (now (stripe .exit)) ⌝ }
