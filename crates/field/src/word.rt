@@ -25,6 +25,9 @@ fn picked(bit: u8, v: u64) -> u64
     if bit == 0 { 0 } else { v }
 }
 
+// A product is eight doublings and eight sums of a word.
+pub const PRODUCT_STEPS: usize = 16;
+
 // Each element of `v` times `c`, in eight doublings.
 pub fn product(c: u8, v: u64) -> u64
     ensures { λ r. ⌜ r ≡ product8 c v ⌝ }

@@ -4,4 +4,4 @@ use Rattle.field.proofs.Loops.{upto}
 use Rattle.field.proofs.column.add_to.Given as given
 
 abbrev pub Inv-loop-i : given.InvT-loop-i
-Inv-loop-i l = l .to ≡ upto (λ (v : ℕ). v) (l .i) (l .entry .to) (l .other)
+Inv-loop-i l = (l .to ≡ upto (λ (v : ℕ). v) (l .i) (l .entry .to) (l .other)) × (l .steps ≡ l .i)

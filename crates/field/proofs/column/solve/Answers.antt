@@ -3,6 +3,9 @@ use Rattle.field.proofs.Solving.{solved}
 use Rattle.field.proofs.column.solve.Needs as need
 
 pub returns : need.returns
-returns c =
-    solved (c .args .x) (c .args .y) (c .apart .result) (c .args .p .now) (c .args .q .now) (c .lower .last .words) (c .add-to .last .to) (c .scale .last .words) (c .add-to-2 .last .to)
-    (omega arith) (omega arith) (c .apart .ensures) (c .lower .ensures) (c .add-to .ensures) (c .scale .ensures) (c .add-to-2 .ensures)
+returns c = record {
+  value =
+      solved (c .args .x) (c .args .y) (c .apart .result) (c .args .p .now) (c .args .q .now) (c .lower-lowered .last .words) (c .add-to-joined .last .to) (c .scale-parted .last .words) (c .add-to .last .to)
+      (omega arith) (omega arith) (c .apart .ensures) (c .lower-lowered .ensures .value) (c .add-to-joined .ensures .value) (c .scale-parted .ensures .value) (c .add-to .ensures .value);
+  steps = omega arith;
+}

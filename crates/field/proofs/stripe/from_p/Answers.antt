@@ -5,5 +5,8 @@ use Rattle.field.proofs.stripe.from_p.Needs as need
 
 pub returns : need.returns
 returns c =
-    restores-P (c .args .k) (c .args .i) (c .args .stripe .now) (c .write .last .stripe) (c .write-2 .last .stripe) _ (c .left .last .p) (c .left .last .q)
-    (omega arith) (omega arith) (omega arith) refl (c .write .ensures) (c .left .ensures) (c .write-2 .ensures)
+    record {
+      restored = restores-P (c .args .k) (c .args .i) (c .args .stripe .now) (c .write .last .stripe) (c .write-2 .last .stripe) _ (c .left-steps .last .p) (c .left-steps .last .q)
+          (omega arith) (omega arith) (omega arith) refl (c .write .ensures) (c .left-steps .ensures .value) (c .write-2 .ensures);
+      steps = omega arith;
+    }

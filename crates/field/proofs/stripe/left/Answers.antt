@@ -10,5 +10,8 @@ use Rattle.field.proofs.stripe.left.Needs as need
 pub returns : need.returns
 returns c =
     let h : (n : ℕ) → getD (c .args .stripe .now) n 0 < 2 ^ 64 = λ n. let t : Fits w64 (getD (c .args .stripe .now) n 0) = c .typed .stripe n in omega arith in
-    left-from (c .args .k) (c .args .stripe .now) (c .parity .last .p) (c .parity .last .q) (c .add-to .last .to) (c .add-to-2 .last .to) (omega arith) (omega arith) h
-    (c .parity .ensures .isP) (c .parity .ensures .isQ) (c .add-to .ensures) (c .add-to-2 .ensures)
+    record {
+      value = left-from (c .args .k) (c .args .stripe .now) (c .parity-steps .last .p) (c .parity-steps .last .q) (c .add-to-in-p .last .to) (c .add-to-in-q .last .to) (omega arith) (omega arith) h
+          (c .parity-steps .ensures .isP) (c .parity-steps .ensures .isQ) (c .add-to-in-p .ensures .value) (c .add-to-in-q .ensures .value);
+      steps = omega arith;
+    }

@@ -9,7 +9,11 @@ use Rattle.field.proofs.Gathering.{Gathered, gathered-none, gathered-more, gat
 use Rattle.field.proofs.stripe.parity.Needs as need
 
 pub loop-i-holds : need.loop-i-holds
-loop-i-holds c = (omega arith, gathered-none (c .args .k) (c .args .k) _ _ (c .args .stripe .now) (c .clear .last .words) (c .clear-2 .last .words) refl (c .clear .ensures) (c .clear-2 .ensures))
+loop-i-holds c = (
+  omega arith,
+  gathered-none (c .args .k) (c .args .k) _ _ (c .args .stripe .now) (c .clear .last .words) (c .clear-2 .last .words) refl (c .clear .ensures) (c .clear-2 .ensures),
+  omega arith,
+)
 
 pub loop-i-again : need.loop-i-again
 loop-i-again c =
@@ -17,7 +21,8 @@ loop-i-again c =
     let n : 64 * i + 64 - 64 * i ≡ 64 = omega arith in (
       omega arith,
       gathered-more (c .args .k) i (c .loop-i .i) (c .args .stripe .now) (c .loop-i .p) (c .loop-i .q) _ _ _ (omega arith) (omega arith)
-          (ap (λ (m : ℕ). take m (drop (64 * i) (c .args .stripe .now))) n) (c .loop-i .inv .1) (c .add-to .ensures) (c .double-and-add .ensures),
+          (ap (λ (m : ℕ). take m (drop (64 * i) (c .args .stripe .now))) n) (c .loop-i .inv .1) (c .add-to-steps .ensures .value) (c .double-and-add-steps .ensures .value),
+      omega arith,
     )
 
 pub returns : need.returns
@@ -30,4 +35,5 @@ returns c =
     record {
       isP = gathered-P (c .args .k) (c .args .stripe .now) h (c .loop-i .p) (c .loop-i .q) g (omega arith);
       isQ = gathered-Q (c .args .k) (c .args .stripe .now) h (c .loop-i .p) (c .loop-i .q) g (omega arith);
+      steps = omega arith;
     }

@@ -10,5 +10,8 @@ pub returns : need.returns
 returns c =
     let h : (n : ℕ) → getD (c .make-parity .last .stripe) n 0 < 2 ^ 64
     = λ n. let t : Fits w64 (getD (c .make-parity .last .stripe) n 0) = c .typed .stripe n in omega arith in
-    puts (c .args .k) (c .args .j) (c .args .words .now) (c .args .stripe .now) (c .write .last .stripe) (c .make-parity .last .stripe) (omega arith) (omega arith) (c .pre .lent .0) h
-    (c .write .ensures) (c .make-parity .ensures)
+    record {
+      done = puts (c .args .k) (c .args .j) (c .args .words .now) (c .args .stripe .now) (c .write .last .stripe) (c .make-parity .last .stripe) (omega arith) (omega arith) (c .pre .lent .0) h
+          (c .write .ensures) (c .make-parity .ensures .anew);
+      steps = omega arith;
+    }
