@@ -3,15 +3,16 @@
 use mathlib.Core.Path.{_≡_, refl, sym, ap, ap₂, _∙_, subst}
 use mathlib.Core.Bool.{Bool}
 use Prim.Native.Nat.{ℕ, zero, suc, _+_, _-_, _*_, _/_, _%_, _^_, _<_, _≤_}
-use native.Mathlib.Nat.{mod-lt, div-one, div-add-mod', mul-suc}
+use native.Mathlib.Nat.{mod-lt, div-one, div-eq-of-lt, div-add-mod', mul-suc}
 use native.Mathlib.Omega.{arith}
 use lib.Dec.{T, eqb, eqb→eq, lit<}
-use lib.Bits.{bitAnd, bitXor, xor-lt, and-le-r}
+use lib.Pow.{pow-mono}
+use lib.Bits.{bitAnd, bitXor, xor-lt, xor-shifted, and-le-r}
 use Rattle.std.proofs.shelf.Bits.{shr-shr, shr-below}
 use Rattle.field.specs.Field.{sum, double, pick, productBy, product}
 use Rattle.field.specs.Word.{byte, carried, double8, product8, EightElements}
-use Rattle.field.proofs.Linear.{Linear, linear-zero, linear-after, linear-shr, linear-mod, all, all-at, agree, ext}
-use Rattle.field.proofs.Products.{linear-double8, double-is, pick-lt}
+use Rattle.field.proofs.Linear.{Linear, linear-zero, linear-after, linear-shl, linear-shr, linear-mod, all, all-at, agree, ext}
+use Rattle.field.proofs.Products.{linear-double8, double-is, double-lt, pick-lt}
 
 pub byte-lt : (b v : ℕ) → byte b v < 256
 byte-lt b v = mod-lt (v / 2 ^ (8 * b)) (lit< tt)
@@ -86,3 +87,34 @@ same-word u v hu hv h = same-bytes 8 u v hu hv h
 
 pub eight-elements : EightElements
 eight-elements = record { sums = λ u v b. linear-byte b u v; doubles = byte-double; products = byte-product 8; same = same-word }
+
+-- ---- one element more, behind the others
+
+push-test : T (agree (λ u. double8 (u * 256)) (λ u. double8 u * 256) 56)
+unfolding double8
+push-test = tt
+
+pub double-push : (u b : ℕ) → u < 2 ^ 56 → b < 256 → double8 u * 256 + double b ≡ double8 (u * 256 + b)
+double-push u b hu hb =
+    sym (xor-shifted (double8 u) 8 (double b) (double-lt b hb))
+    ∙ ap₂ bitXor
+    (sym (ext (λ u. double8 (u * 256)) (λ u. double8 u * 256) (linear-after double8 (λ v. v * 256) linear-double8 (linear-shl 8)) (linear-after (λ v. v * 256) double8 (linear-shl 8) linear-double8) 56 push-test u hu))
+    (double-is b hb)
+    ∙ sym (linear-double8 (u * 256) b) ∙ ap double8 (xor-shifted u 8 b hb)
+
+-- and of a word its next element
+pub next-element : (j v r d : ℕ) → j < 8 → v < 2 ^ 64 → r ≡ double8 (v / 2 ^ (64 - 8 * j)) → d ≡ double (v / 2 ^ (56 - 8 * j) % 256) → r * 256 + d ≡ double8 (v / 2 ^ (64 - 8 * (j + 1)))
+next-element j v r d hj hv er ed =
+    let u = v / 2 ^ (64 - 8 * j) in
+    let t = v / 2 ^ (56 - 8 * j) in
+    let e : 56 - 8 * j + 8 ≡ 64 - 8 * j = omega arith in
+    let e′ : 56 - 8 * j ≡ 64 - 8 * (j + 1) = omega arith in
+    let f : 8 * j + (64 - 8 * j) ≡ 64 = omega arith in
+    let up : t / 256 ≡ u = shr-shr v (56 - 8 * j) 8 ∙ ap (λ (n : ℕ). v / 2 ^ n) e in
+    let small : u < 2 ^ (8 * j) = shr-below v (8 * j) (64 - 8 * j) (subst (λ (n : ℕ). v < 2 ^ n) (sym f) hv) in
+    let most : 2 ^ (8 * j) ≤ 2 ^ 56 = pow-mono {i = 8 * j} {j = 56} (omega arith) in
+    ap₂ (λ (x y : ℕ). x * 256 + y) er ed ∙ double-push u (t % 256) (omega arith) (mod-lt t (lit< tt))
+    ∙ ap double8 (ap (λ (x : ℕ). x * 256 + t % 256) (sym up) ∙ div-add-mod' t 256 ∙ ap (λ (n : ℕ). v / 2 ^ n) e′)
+
+pub no-element : (v : ℕ) → v < 2 ^ 64 → 0 ≡ double8 (v / 2 ^ 64)
+no-element v h = sym (ap double8 (div-eq-of-lt h) ∙ linear-zero double8 linear-double8)
