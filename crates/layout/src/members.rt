@@ -118,7 +118,8 @@ impl Members {
 
     // How many there are.
     pub fn many(&self) -> usize
-        ensures { λ r. ⌜ r ≡ length (listed (now (self .entry) .count) (now (self .entry) .disks)) ⌝ ∗ ⌜ 4 ≤ r ⌝ ∗ ⌜ r ≤ 12 ⌝ }
+        ensures is { λ r. ⌜ r ≡ length (listed (now (self .entry) .count) (now (self .entry) .disks)) ⌝ ∗ ⌜ 4 ≤ r ⌝ ∗ ⌜ r ≤ 12 ⌝ }
+        ensures roster { λ _. ⌜ Roster (listed (now (self .entry) .count) (now (self .entry) .disks)) ⌝ }
     {
         self.count
     }

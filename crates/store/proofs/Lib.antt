@@ -9,3 +9,4 @@ pub mod Heads
 pub mod Choosing
 pub mod Carried
 pub mod Upward
+pub mod Loads

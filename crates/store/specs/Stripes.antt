@@ -1,0 +1,71 @@
+-- A stripe on the members of a store: loaded from any sector, read in part, and written, all columns or some.
+-- Assumes nothing.
+use mathlib.Core.Path.{_≡_}
+use mathlib.Core.Bool.{Bool, true, false}
+use mathlib.Core.List.{List}
+use Prim.Native.Nat.{ℕ, _+_, _<_, _≤_}
+use lib.Dec.{T}
+use lib.ListN.{length, getD}
+use Rattle.field.specs.Stripe.{column, Codeword, Lies}
+use Rattle.field.specs.Missing.{Known}
+use Rattle.field.specs.declared.missing.Missing.{Missing}
+use Rattle.field.specs.declared.missing.Missing.the-variants.{Nothing, One, Two}
+use Rattle.layout.specs.Places.{place, index}
+use Rattle.layout.specs.Members.{marked}
+use Rattle.layout.specs.declared.members.Marks.{Marks}
+use Rattle.store.specs.Event.{Event}
+use Rattle.store.specs.Shelf.{Shelf, count}
+use Rattle.store.specs.Durable.{Shows, Steady, Employed, Nowhere, Went}
+
+-- the members can be asked: each is in use, no more than two are lost, and those that are marked are dead
+pub record Serving (x : Shelf) (ds : List ℕ) (m : Marks) : Type 0 where
+  pub steady : Steady x
+  pub employed : (p : ℕ) → p < length ds → Employed x (getD ds p 0)
+  pub marks : (p : ℕ) → p < length ds → T (marked m p) → x .alive (getD ds p 0) ≡ false
+
+-- each member shows its column of c at sector s, as stripe r has it
+abbrev pub Shown : Shelf → List ℕ → ℕ → ℕ → (ℕ → List ℕ) → Type 0
+Shown x ds s r c = (p : ℕ) → p < length ds → Shows x (getD ds p 0) s (c (index p r))
+
+-- the disk that has column i of stripe r
+abbrev pub diskOf : List ℕ → ℕ → ℕ → ℕ
+diskOf ds r i = getD ds (place i r) 0
+
+-- a member was asked, or known to be dead: if it lives, b is what it shows
+pub record Answered (d s : ℕ) (b : List ℕ) (lives : Bool) (x y : Shelf) : Type 0 where
+  pub lit : x .on ≡ true → y .on ≡ true
+  pub alive : y .alive d ≡ lives
+  pub shows : T lives → b ≡ y .shown d s
+
+-- P of each column that is missing
+abbrev pub Each : Missing → (ℕ → Type 0) → Type 0
+Each Nothing P = Unit {0}
+Each (One a) P = P a
+Each (Two a b) P = P a × P b
+
+-- the first n columns were asked for: those that were read are there, the others are on dead disks
+pub record Loading (n : ℕ) (m : Missing) (ds : List ℕ) (s r : ℕ) (stripe : List ℕ) (x : Shelf) (es : List Event) (y : Shelf) (fs : List Event) : Type 0 where
+  pub went : Went n Nowhere x es y fs
+  pub lit : x .on ≡ true → y .on ≡ true
+  pub known : Known n m (λ e. T (x .alive (diskOf ds r e)) × (column e stripe ≡ x .shown (diskOf ds r e) s)) (λ e. y .alive (diskOf ds r e) ≡ false)
+
+-- All columns of whatever codeword the members show are there, whichever two are dead; each member was asked at most once.
+pub record Loaded (m : Missing) (ds : List ℕ) (s r : ℕ) (stripe : List ℕ) (x y : Shelf) : Type 0 where
+  pub lit : x .on ≡ true → y .on ≡ true
+  pub dead : Each m (λ i. (i < length ds) × (y .alive (diskOf ds r i) ≡ false))
+  pub whole : (c : ℕ → List ℕ) → Codeword (length ds) c → Shown x ds s r c → Lies (length ds) stripe c
+
+-- column i of whatever codeword the members show
+pub record Read (ds : List ℕ) (s r i : ℕ) (words : List ℕ) (x y : Shelf) : Type 0 where
+  pub lit : x .on ≡ true → y .on ≡ true
+  pub column-is : (c : ℕ → List ℕ) → Codeword (length ds) c → Shown x ds s r c → words ≡ c i
+
+-- a selected column of the stripe, to its disk at s, and nothing else
+abbrev pub Spread : (ℕ → Bool) → List ℕ → ℕ → ℕ → List ℕ → (d s : ℕ) → List ℕ → Type 0
+Spread sel ds s r stripe d t b = (t ≡ s) × ((i : ℕ) × ((i < length ds) × T (sel i) × (d ≡ diskOf ds r i) × (b ≡ column i stripe)))
+
+-- of the first n columns the selected ones were written, and are shown; each was asked for once
+pub record Storing (n : ℕ) (sel : ℕ → Bool) (ds : List ℕ) (s r : ℕ) (stripe : List ℕ) (x : Shelf) (es : List Event) (y : Shelf) (fs : List Event) : Type 0 where
+  pub went : Went (count n sel) (Spread sel ds s r stripe) x es y fs
+  pub lit : x .on ≡ true → y .on ≡ true
+  pub shows : (i : ℕ) → i < n → T (sel i) → Shows y (diskOf ds r i) s (column i stripe)
