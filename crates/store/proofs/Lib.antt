@@ -10,3 +10,4 @@ pub mod Choosing
 pub mod Carried
 pub mod Upward
 pub mod Loads
+pub mod Stores

@@ -32,6 +32,7 @@ use Rattle.store.proofs.Standing.{members-apart}
 pub serving-went : {n : ℕ} {W : (d s : ℕ) → List ℕ → Type 0} {x y : Shelf} {es fs : List Event} → Went n W x es y fs → (ds : List ℕ) (m : Marks) → Serving x ds m → Serving y ds m
 serving-went w ds m v =
     record {
+      roster = v .roster;
       steady = w .deaths .steady (v .steady);
       employed = λ p l. w .deaths .employed (getD ds p 0) (v .employed p l);
       marks = λ p l t. dead-stays w (getD ds p 0) (v .marks p l t);
@@ -121,3 +122,22 @@ loaded {m} {ds} {s} {r} {t} {u} {x} {y} few p f =
 
 pub loading-is : {ds : List ℕ} {m : Missing} {s r i n : ℕ} {t : List ℕ} {x y : Shelf} {es fs : List Event} → i ≡ n → Loading i m ds s r t x es y fs → Loading n m ds s r t x es y fs
 loading-is {ds} {m} {s} {r} {t = t} {x} {y} {es} {fs} e p = subst (λ (z : ℕ). Loading z m ds s r t x es y fs) e p
+
+-- ---- one column
+
+shown-went : {n : ℕ} {x y : Shelf} {es fs : List Event} → Went n Nowhere x es y fs → (ds : List ℕ) (s r : ℕ) (c : ℕ → List ℕ) → Shown x ds s r c → Shown y ds s r c
+shown-went w ds s r c h p b = shows-went w (getD ds p 0) s (c (index p r)) (λ _ v. v) (h p b)
+
+pub read-one : {n : ℕ} {ds : List ℕ} {s r i : ℕ} {b : List ℕ} {x y : Shelf} {es fs : List Event} (lives : Bool) → Roster ds → i < length ds → lives ≡ true → Went n Nowhere x es y fs → Answered (diskOf ds r i) s b lives x y →
+    Read ds s r i b x y
+read-one {ds = ds} {s} {r} {i} lives few h o w a =
+    record {
+      lit = a .lit;
+      column-is = λ c _ l.
+          a .shows (true-T o) ∙ (w .stays (diskOf ds r i) s (λ b v. v) ∙
+          (l (place i r) (place-within (length ds) i r (few .least) h) (w .deaths .falls (diskOf ds r i) (true-T (a .alive ∙ o))) ∙ ap c (index-place i r)));
+    }
+
+pub read-all : {n : ℕ} {m : Missing} {ds : List ℕ} {s r i : ℕ} {b t : List ℕ} {x y z : Shelf} {es fs : List Event} (d : ℕ) (v : List ℕ) (lives : Bool) → i < length ds → b ≡ column i t → Went n Nowhere x es y fs → Answered d s v lives x y →
+    Loaded m ds s r t y z → Read ds s r i b x z
+read-all {ds = ds} {s} {r} {i} d v lives h e w a p = record { lit = λ on. p .lit (a .lit on); column-is = λ c k l. e ∙ p .whole c k (shown-went w ds s r c l) i h }

@@ -11,14 +11,17 @@ use Rattle.field.specs.Missing.{Known}
 use Rattle.field.specs.declared.missing.Missing.{Missing}
 use Rattle.field.specs.declared.missing.Missing.the-variants.{Nothing, One, Two}
 use Rattle.layout.specs.Places.{place, index}
-use Rattle.layout.specs.Members.{marked}
+use Rattle.layout.specs.Members.{Roster, marked}
 use Rattle.layout.specs.declared.members.Marks.{Marks}
 use Rattle.store.specs.Event.{Event}
 use Rattle.store.specs.Shelf.{Shelf, count}
+use Rattle.layout.specs.Super.{Super}
 use Rattle.store.specs.Durable.{Shows, Steady, Employed, Nowhere, Went}
+use Rattle.store.specs.Keeping.{Holds}
 
--- the members can be asked: each is in use, no more than two are lost, and those that are marked are dead
+-- the members can be asked: they are 4 to 12 disks, no disk twice, each is in use, no more than two are lost, and those that are marked are dead
 pub record Serving (x : Shelf) (ds : List ℕ) (m : Marks) : Type 0 where
+  pub roster : Roster ds
   pub steady : Steady x
   pub employed : (p : ℕ) → p < length ds → Employed x (getD ds p 0)
   pub marks : (p : ℕ) → p < length ds → T (marked m p) → x .alive (getD ds p 0) ≡ false
@@ -61,11 +64,23 @@ pub record Read (ds : List ℕ) (s r i : ℕ) (words : List ℕ) (x y : Shelf) :
   pub column-is : (c : ℕ → List ℕ) → Codeword (length ds) c → Shown x ds s r c → words ≡ c i
 
 -- a selected column of the stripe, to its disk at s, and nothing else
-abbrev pub Spread : (ℕ → Bool) → List ℕ → ℕ → ℕ → List ℕ → (d s : ℕ) → List ℕ → Type 0
-Spread sel ds s r stripe d t b = (t ≡ s) × ((i : ℕ) × ((i < length ds) × T (sel i) × (d ≡ diskOf ds r i) × (b ≡ column i stripe)))
+abbrev pub Spread : (ℕ → Bool) → List ℕ → ℕ → ℕ → (ℕ → List ℕ) → (d s : ℕ) → List ℕ → Type 0
+Spread sel ds s r h d t b = (t ≡ s) × ((i : ℕ) × ((i < length ds) × T (sel i) × (d ≡ diskOf ds r i) × (b ≡ h i)))
 
--- of the first n columns the selected ones were written, and are shown; each was asked for once
-pub record Storing (n : ℕ) (sel : ℕ → Bool) (ds : List ℕ) (s r : ℕ) (stripe : List ℕ) (x : Shelf) (es : List Event) (y : Shelf) (fs : List Event) : Type 0 where
-  pub went : Went (count n sel) (Spread sel ds s r stripe) x es y fs
+-- of the first n columns h the selected ones were written, each by one ask, and are shown
+pub record Storing (n : ℕ) (sel : ℕ → Bool) (ds : List ℕ) (s r : ℕ) (h : ℕ → List ℕ) (x : Shelf) (es : List Event) (y : Shelf) (fs : List Event) : Type 0 where
+  pub went : Went (count n sel) (Spread sel ds s r h) x es y fs
   pub lit : x .on ≡ true → y .on ≡ true
-  pub shows : (i : ℕ) → i < n → T (sel i) → Shows y (diskOf ds r i) s (column i stripe)
+  pub shows : (i : ℕ) → i < n → T (sel i) → Shows y (diskOf ds r i) s (h i)
+
+-- a selected column at sector s of a disk that holds its place of stripe r, and nothing else
+abbrev pub Held : (ℕ → Bool) → Super → ℕ → ℕ → (d s : ℕ) → List ℕ → Type 0
+Held sel S s r d t b = (t ≡ s) × ((p : ℕ) × (Holds S d p r × T (sel (index p r))))
+
+-- all that hold stripe r show its selected columns h at sector s
+abbrev pub Stored : (ℕ → Bool) → Super → ℕ → ℕ → (ℕ → List ℕ) → Shelf → Type 0
+Stored sel S s r h y = (d p : ℕ) → Holds S d p r → T (sel (index p r)) → Shows y d s (h (index p r))
+
+-- which columns are selected
+abbrev pub chosen : List Bool → ℕ → Bool
+chosen bs i = getD bs i false

@@ -21,6 +21,7 @@ mod answers;
 mod commit;
 mod journal;
 mod recovery;
+mod selection;
 mod stripe;
 
 // What a disk answers. Dead: it has died, for ever. Dark: the power has gone, and every disk answers so from then on.

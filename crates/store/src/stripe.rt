@@ -7,17 +7,24 @@ ghost use mathlib.Core.Bool.{Bool, true, false};
 ghost use Prim.Native.Nat.{ℕ, _+_, _*_, _<_, _≤_};
 ghost use lib.ListN.{length, getD};
 ghost use Rattle.std.specs.Results.{Cases};
-ghost use Rattle.layout.specs.Members.{listed, marked};
+ghost use Rattle.field.specs.Stripe.{held};
+ghost use Rattle.layout.specs.Members.{listed};
+ghost use Rattle.layout.specs.Super.{says, Proper};
 ghost use Rattle.store.specs.Shelf.{count};
-ghost use Rattle.store.specs.Durable.{Went, Nowhere};
-ghost use Rattle.store.specs.Stripes.{Serving, Answered, Loaded, Read, Spread, Storing};
+ghost use Rattle.store.specs.Durable.{Went, Nowhere, Here, Shows, Employed};
+ghost use Rattle.store.specs.Keeping.{Holds};
+ghost use Rattle.store.specs.Stripes.{Serving, Answered, Loaded, Read, Spread, Storing, Held, Stored, chosen};
 use crate::Disks;
 use crate::Gone;
 use crate::answers::read_sector;
+use crate::answers::write_sector;
+use crate::selection::Selection;
 use field::Missing;
 use field::also;
 use field::mend;
 use layout::Members;
+use layout::Superblock;
+use layout::index_of;
 use layout::place_of;
 
 // Sector s of the member at place p, and whether it lives; one that is known to be dead is not asked.
@@ -67,4 +74,70 @@ pub fn load<D: Disks>(
     }
     let _ = mend(stripe, k, missing);
     Ok(missing)
+}
+
+// Column i of stripe r alone: from its own member by one ask, or, if that is dead, from the others.
+pub fn read_column<D: Disks>(
+    d: &mut D,
+    members: &Members,
+    s: u64,
+    r: u64,
+    i: usize,
+    into: &mut [u64],
+    stripe: &mut [u64],
+) -> Result<(), Gone>
+    requires left { ⌜ 1 + length (listed (now members .count) (now members .disks)) ≤ shelf (now d) .left ⌝ }
+    requires size { ⌜ s < shelf (now d) .sectors ⌝ ∗ ⌜ i < length (listed (now members .count) (now members .disks)) ⌝ }
+    requires serving { ⌜ Serving (shelf (now d)) (listed (now members .count) (now members .disks)) (now members .dead) ⌝ }
+    requires lent { ⌜ length (now stripe) ≡ 64 * length (listed (now members .count) (now members .disks)) ⌝ ∗ ⌜ length (now into) ≡ 64 ⌝ }
+    ensures went { λ _. ⌜ Went (1 + length (listed (now (members .entry) .count) (now (members .entry) .disks))) Nowhere (shelf (now (d .entry))) (seen (now (d .entry))) (shelf (now (d .exit))) (seen (now (d .exit))) ⌝ }
+    ensures how { λ v. ⌜ Cases v (λ _. Read (listed (now (members .entry) .count) (now (members .entry) .disks)) s r i (now (into .exit)) (shelf (now (d .entry))) (shelf (now (d .exit)))) (λ _. shelf (now (d .exit)) .on ≡ false) ⌝ }
+{
+    let p = place_of(i, r);
+    if !fetch(d, members, p, s, into)? {
+        let _ = load(d, members, s, r, stripe)?;
+        into.copy_from_slice(&stripe[64 * i..64 * i + 64]);
+    }
+    Ok(())
+}
+
+// Words to sector s of the member at place p; one that is known to be dead is not asked.
+fn lay<D: Disks>(d: &mut D, members: &Members, p: usize, s: u64, words: &[u64]) -> Result<(), Gone>
+    requires left { ⌜ 0 < shelf (now d) .left ⌝ }
+    requires place { ⌜ p < length (listed (now members .count) (now members .disks)) ⌝ ∗ ⌜ s < shelf (now d) .sectors ⌝ }
+    requires serving { ⌜ Serving (shelf (now d)) (listed (now members .count) (now members .disks)) (now members .dead) ⌝ }
+    requires lent { ⌜ length (now words) ≡ 64 ⌝ }
+    ensures went { λ _. ⌜ Went 1 (Here (getD (listed (now (members .entry) .count) (now (members .entry) .disks)) p 0) s (now (words .entry))) (shelf (now (d .entry))) (seen (now (d .entry))) (shelf (now (d .exit))) (seen (now (d .exit))) ⌝ }
+    ensures how { λ v. ⌜ Cases v (λ _. (shelf (now (d .entry)) .on ≡ true → shelf (now (d .exit)) .on ≡ true) × Shows (shelf (now (d .exit))) (getD (listed (now (members .entry) .count) (now (members .entry) .disks)) p 0) s (now (words .entry))) (λ _. shelf (now (d .exit)) .on ≡ false) ⌝ }
+{
+    if !members.is_marked(p) {
+        let at = members.at(p);
+        let _ = write_sector(d, at, s, words)?;
+    }
+    Ok(())
+}
+
+// The selected columns of stripe r to sector s of the members, each by one ask.
+pub fn store_members<D: Disks>(
+    d: &mut D,
+    members: &Members,
+    s: u64,
+    r: u64,
+    stripe: &[u64],
+    which: &Selection,
+) -> Result<(), Gone>
+    requires left { ⌜ count (length (listed (now members .count) (now members .disks))) (chosen (now which .columns)) ≤ shelf (now d) .left ⌝ }
+    requires size { ⌜ s < shelf (now d) .sectors ⌝ }
+    requires serving { ⌜ Serving (shelf (now d)) (listed (now members .count) (now members .disks)) (now members .dead) ⌝ }
+    requires lent { ⌜ length (now stripe) ≡ 64 * length (listed (now members .count) (now members .disks)) ⌝ }
+    ensures went { λ _. ⌜ Went (count (length (listed (now (members .entry) .count) (now (members .entry) .disks))) (chosen (now (which .entry) .columns))) (Spread (chosen (now (which .entry) .columns)) (listed (now (members .entry) .count) (now (members .entry) .disks)) s r (held (length (listed (now (members .entry) .count) (now (members .entry) .disks))) (now (stripe .entry)))) (shelf (now (d .entry))) (seen (now (d .entry))) (shelf (now (d .exit))) (seen (now (d .exit))) ⌝ }
+    ensures how { λ v. ⌜ Cases v (λ _. Storing (length (listed (now (members .entry) .count) (now (members .entry) .disks))) (chosen (now (which .entry) .columns)) (listed (now (members .entry) .count) (now (members .entry) .disks)) s r (held (length (listed (now (members .entry) .count) (now (members .entry) .disks))) (now (stripe .entry))) (shelf (now (d .entry))) (seen (now (d .entry))) (shelf (now (d .exit))) (seen (now (d .exit)))) (λ _. shelf (now (d .exit)) .on ≡ false) ⌝ }
+{
+    for i in 0..members.many() {
+        if which.has(i) {
+            let p = place_of(i, r);
+            lay(d, members, p, s, &stripe[64 * i..64 * i + 64])?;
+        }
+    }
+    Ok(())
 }
