@@ -15,7 +15,7 @@ use value::place;
 use value::small;
 
 // What a line asks for. Who carries it out answers for a tag or a disk that there isn't.
-#[derive(Clone, Copy)]
+#[derive(Clone, Copy, PartialEq, Debug)]
 pub enum Command {
     Write { tag: u32, sector: u64, byte: u8 },
     Read { tag: u32, sector: u64 },
@@ -41,6 +41,7 @@ fn is(word: &[u8], text: &[u8]) -> bool
     word == text
 }
 
+// `new`
 fn one_word(a: &[u8]) -> Option<Command>
     ensures { λ r. ⌜ r ≡ oneWord (now (a .entry)) ⌝ }
 {
@@ -51,6 +52,7 @@ fn one_word(a: &[u8]) -> Option<Command>
     }
 }
 
+// `turn 20`, `die 3`, `until 2`, `1 flush`, `1 size`
 fn two_words(a: &[u8], b: &[u8]) -> Option<Command>
     ensures { λ r. ⌜ r ≡ twoWords (now (a .entry)) (now (b .entry)) ⌝ }
 {
@@ -69,6 +71,7 @@ fn two_words(a: &[u8], b: &[u8]) -> Option<Command>
     }
 }
 
+// `die 3 50`, `cut 9 1234`, `0 read 5`, `2 add 4`
 fn three_words(a: &[u8], b: &[u8], c: &[u8]) -> Option<Command>
     ensures { λ r. ⌜ r ≡ threeWords (now (a .entry)) (now (b .entry)) (now (c .entry)) ⌝ }
 {
@@ -97,6 +100,7 @@ fn three_words(a: &[u8], b: &[u8], c: &[u8]) -> Option<Command>
     }
 }
 
+// `0 write 5 7a`, `2 replace 1 5`
 fn four_words(a: &[u8], b: &[u8], c: &[u8], d: &[u8]) -> Option<Command>
     ensures { λ r. ⌜ r ≡ fourWords (now (a .entry)) (now (b .entry)) (now (c .entry)) (now (d .entry)) ⌝ }
 {
@@ -139,3 +143,6 @@ pub fn parse(line: &[u8]) -> Option<Command>
         Some(_) => None,
     }
 }
+
+#[cfg(test)]
+mod tests;
