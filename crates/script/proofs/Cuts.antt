@@ -1,6 +1,6 @@
 -- The laws of words.
 use mathlib.Core.Path.{_≡_, refl, sym, ap, _∙_}
-use mathlib.Core.Bool.{cond, true, false}
+use mathlib.Core.Bool.{true, false}
 use mathlib.Core.List.{List, [], _∷_, _++_, append-nil}
 use Prim.Native.Nat.{ℕ, zero, suc, _+_, _<_, _≤_}
 use native.Mathlib.Omega.{arith}
@@ -8,7 +8,7 @@ use lib.Dec.{eqb}
 use lib.ListN.{length, getD, take, drop}
 use Rattle.std.proofs.shelf.Lists.{at-drop-more, drop-more, getD-take, length-take, length-take-le, take-append-drop}
 use Rattle.std.proofs.shelf.Tests.{cond-both, eq-eqb, ne-eqb, eqb-false}
-use Rattle.script.specs.Words.{onto, pieces, filled, words, unspaced}
+use Rattle.script.specs.Words.{pieces, words, unspaced}
 
 -- A byte that isn't a space stands at each place of the list.
 abbrev pub Solid : List ℕ → Type 0

@@ -1,11 +1,11 @@
 -- The first 256 bytes of a line are enough to know what it says.
 use mathlib.Core.Path.{_≡_, refl, sym, ap, _∙_}
 use mathlib.Core.List.{List, [], _∷_, _++_}
-use mathlib.Core.Logic.{inl, inr, ⊎-elim}
+use mathlib.Core.Logic.{⊎-elim}
 use Prim.Native.Nat.{ℕ, zero, suc, _+_, _<_, _≤_}
 use native.Mathlib.Omega.{arith}
 use lib.ListN.{length, getD, take, set}
-use Rattle.std.proofs.shelf.Lists.{take-all, take-append-le, take-more, take-more-set, append-assoc, length-take, length-take-le, length-push}
+use Rattle.std.proofs.shelf.Lists.{take-all, take-append-le, take-more, take-more-set, append-assoc, length-take, length-push}
 use Rattle.std.proofs.shelf.Tests.{cases-lt, lt-leb}
 use Rattle.script.specs.Meaning.{commandOf}
 

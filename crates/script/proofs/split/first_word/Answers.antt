@@ -1,10 +1,9 @@
-use mathlib.Core.Path.{_≡_, sym, ap, _∙_}
+use mathlib.Core.Path.{_≡_, sym}
 use Prim.Native.Nat.{_<_}
 use native.Mathlib.Omega.{arith}
 use lib.ListN.{length, getD}
 use Rattle.std.proofs.shelf.Lists.{nil-from-length}
 use Rattle.std.proofs.shelf.Tests.{eqb-true, eqb-false}
-use Rattle.script.specs.Words.{words}
 use Rattle.script.proofs.Cuts.{words-unspaced, words-none, words-at-space, words-at-end, unspaced-first}
 use Rattle.script.proofs.split.first_word.Needs as need
 
