@@ -16,11 +16,11 @@ pub record Begun (k rest last : List ℕ) : Type 0 where
   pub keeps : k ≡ take 256 line
   pub comes : unended line rest ≡ last
 
--- Where no newline is left.
-pub begun-last : (k rest last : List ℕ) → length (lineOf rest) ≡ length rest → Begun k rest last → take 256 (k ++ lineOf rest) ≡ take 256 last
-begun-last k rest last h b =
-    ap (λ s. take 256 (s ++ lineOf rest)) (b .keeps)
-    ∙ (take-again 256 (b .line) (lineOf rest) ∙ ap (take 256) (sym (last-line (b .line) rest h .0) ∙ b .comes))
+-- Where no newline is left; j is kept once the bytes are taken.
+pub begun-last : (k j rest last : List ℕ) → j ≡ take 256 (k ++ lineOf rest) → length (lineOf rest) ≡ length rest → Begun k rest last → j ≡ take 256 last
+begun-last k j rest last e h b =
+    e ∙ (ap (λ s. take 256 (s ++ lineOf rest)) (b .keeps)
+    ∙ (take-again 256 (b .line) (lineOf rest) ∙ ap (take 256) (sym (last-line (b .line) rest h .0) ∙ b .comes)))
 
 -- Where no byte is left.
 pub begun-all : (k rest last : List ℕ) → length rest ≡ 0 → Begun k rest last → k ≡ take 256 last

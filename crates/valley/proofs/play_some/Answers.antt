@@ -22,7 +22,7 @@ returns-then-n-rest g c =
     let e : length (lineOf (c .loop-rest .rest .now)) ≡ length (c .loop-rest .rest .now) = sym (c .fill-n .ensures .many) ∙ c .if-n-rest .taken in
     record {
       number = omega (arith, last-line (c .loop-rest .rest .now) (c .loop-rest .rest .now) e .1, c .loop-rest .inv);
-      after = λ begun h. c .fill-n .ensures .after ∙ begun-last _ _ _ e (c .loop-rest .inv .3 begun h);
+      after = λ begun h. begun-last _ _ _ _ (c .fill-n .ensures .after) e (c .loop-rest .inv .3 begun h);
     }
 
 pub loop-rest-again : need.loop-rest-again
