@@ -17,7 +17,11 @@ use Rattle.store.specs.Event.{Event}
 use Rattle.store.specs.Shelf.{Shelf, count}
 use Rattle.layout.specs.Super.{Super}
 use Rattle.store.specs.Durable.{Shows, Steady, Employed, Nowhere, Went}
-use Rattle.store.specs.Keeping.{Holds}
+use Rattle.std.specs.declared.option.Option.{Option}
+use Rattle.std.specs.declared.option.Option.the-variants.{None, Some}
+use Rattle.layout.specs.declared.superblock.Rebuild.{Rebuild}
+use Rattle.store.specs.declared.stripe.Share.{Share}
+use Rattle.store.specs.Keeping.{Fills, Holds}
 
 -- the members can be asked: they are 4 to 12 disks, no disk twice, each is in use, no more than two are lost, and those that are marked are dead
 pub record Serving (x : Shelf) (ds : List ℕ) (m : Marks) : Type 0 where
@@ -84,3 +88,8 @@ Stored sel S s r h y = (d p : ℕ) → Holds S d p r → T (sel (index p r)) →
 -- which columns are selected
 abbrev pub chosen : List Bool → ℕ → Bool
 chosen bs i = getD bs i false
+
+-- the disk that is being filled, if it has stripe r already: its number, and the column that it holds
+abbrev pub FillsWith : Option Share → Option Rebuild → ℕ → Type 0
+FillsWith None R r = (d p : ℕ) → Fills R d p r → ⊥
+FillsWith (Some f) R r = (p : ℕ) × (Fills R (f .disk) p r × (f .column ≡ index p r) × (p < 12) × ((d q : ℕ) → Fills R d q r → d ≡ f .disk))

@@ -9,11 +9,11 @@ ghost use lib.ListN.{length, getD};
 ghost use Rattle.std.specs.Results.{Cases};
 ghost use Rattle.field.specs.Stripe.{held};
 ghost use Rattle.layout.specs.Members.{listed};
-ghost use Rattle.layout.specs.Super.{says, Proper};
+ghost use Rattle.layout.specs.Super.{says, Proper, Joins};
 ghost use Rattle.store.specs.Shelf.{count};
 ghost use Rattle.store.specs.Durable.{Went, Nowhere, Here, Shows, Employed};
 ghost use Rattle.store.specs.Keeping.{Holds};
-ghost use Rattle.store.specs.Stripes.{Serving, Answered, Loaded, Read, Spread, Storing, Held, Stored, chosen};
+ghost use Rattle.store.specs.Stripes.{Serving, Answered, Loaded, Read, Spread, Storing, Held, Stored, FillsWith, chosen};
 use crate::Disks;
 use crate::Gone;
 use crate::answers::read_sector;
@@ -137,6 +137,84 @@ pub fn store_members<D: Disks>(
         if which.has(i) {
             let p = place_of(i, r);
             lay(d, members, p, s, &stripe[64 * i..64 * i + 64])?;
+        }
+    }
+    Ok(())
+}
+
+// What a disk that is being filled has of a stripe: one column.
+#[derive(Clone, Copy)]
+pub struct Share {
+    pub disk: u32,
+    pub column: usize,
+}
+
+// The share of the disk that is being filled, if it has stripe r already.
+fn share_of(b: &Superblock, r: u64) -> Option<Share>
+    requires { ⌜ Joins (now b .rebuild) (listed (now b .members .count) (now b .members .disks)) ⌝ }
+    ensures { λ v. ⌜ FillsWith v (now (b .entry) .rebuild) r ⌝ }
+{
+    match b.rebuild {
+        None => None,
+        Some(fill) => {
+            if r < fill.done {
+                Some(Share {
+                    disk: fill.disk,
+                    column: index_of(fill.place, r),
+                })
+            } else {
+                None
+            }
+        }
+    }
+}
+
+// Column i of k, which behind the last is noughts, to sector s of a disk.
+fn write_column<D: Disks>(
+    d: &mut D,
+    at: u32,
+    s: u64,
+    i: usize,
+    k: usize,
+    stripe: &[u64],
+) -> Result<(), Gone>
+    requires left { ⌜ 0 < shelf (now d) .left ⌝ }
+    requires place { ⌜ s < shelf (now d) .sectors ⌝ ∗ ⌜ i < 12 ⌝ }
+    requires employed { ⌜ Employed (shelf (now d)) at ⌝ }
+    requires lent { ⌜ length (now stripe) ≡ 64 * k ⌝ }
+    ensures went { λ _. ⌜ Went 1 (Here at s (held k (now (stripe .entry)) i)) (shelf (now (d .entry))) (seen (now (d .entry))) (shelf (now (d .exit))) (seen (now (d .exit))) ⌝ }
+    ensures how { λ v. ⌜ Cases v (λ _. (shelf (now (d .exit)) .on ≡ true) × Shows (shelf (now (d .exit))) at s (held k (now (stripe .entry)) i)) (λ _. shelf (now (d .exit)) .on ≡ false) ⌝ }
+{
+    if i < k {
+        let _ = write_sector(d, at, s, &stripe[64 * i..64 * i + 64])?;
+    } else {
+        let _ = write_sector(d, at, s, &[0u64; 64])?;
+    }
+    Ok(())
+}
+
+// The selected columns of stripe r to sector s of all that hold it, also of the disk that is being filled.
+pub fn store<D: Disks>(
+    d: &mut D,
+    b: &Superblock,
+    s: u64,
+    r: u64,
+    stripe: &[u64],
+    which: &Selection,
+) -> Result<(), Gone>
+    requires left { ⌜ count (length (listed (now b .members .count) (now b .members .disks))) (chosen (now which .columns)) + 1 ≤ shelf (now d) .left ⌝ }
+    requires size { ⌜ s < shelf (now d) .sectors ⌝ }
+    requires proper { ⌜ Proper (says (now b)) ⌝ }
+    requires serving { ⌜ Serving (shelf (now d)) (listed (now b .members .count) (now b .members .disks)) (now b .members .dead) ⌝ }
+    requires employed { ⌜ ((e p t : ℕ) → Holds (says (now b)) e p t → Employed (shelf (now d)) e) ⌝ }
+    requires lent { ⌜ length (now stripe) ≡ 64 * length (listed (now b .members .count) (now b .members .disks)) ⌝ }
+    ensures went { λ _. ⌜ Went (count (length (listed (now (b .entry) .members .count) (now (b .entry) .members .disks))) (chosen (now (which .entry) .columns)) + 1) (Held (chosen (now (which .entry) .columns)) (says (now (b .entry))) s r) (shelf (now (d .entry))) (seen (now (d .entry))) (shelf (now (d .exit))) (seen (now (d .exit))) ⌝ }
+    ensures how { λ v. ⌜ Cases v (λ _. (shelf (now (d .entry)) .on ≡ true → shelf (now (d .exit)) .on ≡ true) × Stored (chosen (now (which .entry) .columns)) (says (now (b .entry))) s r (held (length (listed (now (b .entry) .members .count) (now (b .entry) .members .disks))) (now (stripe .entry))) (shelf (now (d .exit)))) (λ _. shelf (now (d .exit)) .on ≡ false) ⌝ }
+{
+    store_members(d, &b.members, s, r, stripe, which)?;
+    if let Some(share) = share_of(b, r) {
+        if which.has(share.column) {
+            write_column(d, share.disk, s, share.column, b.members.many(), stripe)?;
         }
     }
     Ok(())
