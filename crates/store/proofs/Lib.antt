@@ -11,3 +11,4 @@ pub mod Carried
 pub mod Upward
 pub mod Loads
 pub mod Stores
+pub mod Journalling

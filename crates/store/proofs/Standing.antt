@@ -19,6 +19,7 @@ use Rattle.store.specs.Event.{Event}
 use Rattle.store.specs.Shelf.{Shelf}
 use Rattle.store.specs.Durable.{Among, Shows, Settled, Steady, Employed, Nowhere, Deaths, Went, Returned}
 use Rattle.store.specs.Keeping.{Columns, slot, isJournalled, home, Fills, Holds, Inside, Kept, UpTo, Sound, Torn, Placed, Ready, Left}
+use Rattle.store.specs.Writes.{InPlace, journalling}
 use Rattle.store.proofs.Laws.{among-went, shows-went, among-back, shows-among, among-synced, among-weaker}
 
 -- ---- where a stripe is
@@ -244,17 +245,9 @@ pub all-shown : (x : Shelf) (S : Super) (c : Columns) → Kept x S c → Placed 
 all-shown x S c k q d p r h l =
     ⊎-elim (λ u. q d p r h (u .0)) (λ e. shows-among x d (64 + r) (c r (index p r)) (subst (λ (s : ℕ). Among x d s (λ b. b ≡ c r (index p r))) e (k .stripes d p r h l))) (home-cases S r)
 
--- all stripes are in their places, and last
-abbrev pub InPlace : Shelf → Super → Columns → Type 0
-InPlace x S c = (d p r : ℕ) → Holds S d p r → 64 + r < x .sectors → Among x d (64 + r) (λ b. b ≡ c r (index p r))
-
 -- a sync after that
 pub in-place-synced : {x y : Shelf} {es fs : List Event} → Went 1 Nowhere x es y fs → Settled y → (S : Super) (c : Columns) → Kept x S c → Placed x S c → InPlace y S c
 in-place-synced {x} w z S c k q d p r h l = among-synced w z d (64 + r) (c r (index p r)) (all-shown x S c k q d p r h (subst (λ (m : ℕ). 64 + r < m) (w .deaths .size) l))
-
--- the next superblock with stripe r in the journal, which says the same otherwise
-abbrev pub journalling : Super → ℕ → Super
-journalling S r = record { generation = S .generation + 1; members = S .members; rebuild = S .rebuild; journal = Some r }
 
 -- It is kept where the stripe is in the other slot of all that hold it.
 pub kept-journalling : (x : Shelf) (S : Super) (c c′ : Columns) (r : ℕ) → Kept x S c → InPlace x S c → 64 + r < x .sectors → ((t i : ℕ) → (t ≡ r → ⊥) → c′ t i ≡ c t i) →
