@@ -19,7 +19,10 @@ use Rattle.store.specs.Event.{Event}
 use Rattle.store.specs.Shelf.{Shelf, count}
 use Rattle.store.specs.Durable.{Nowhere, Here, Went, Shows}
 use Rattle.store.specs.Keeping.{Fills, Holds}
-use Rattle.store.specs.Stripes.{diskOf, Spread, Storing, Held, Stored}
+use Rattle.std.specs.declared.option.Option.{Option}
+use Rattle.std.specs.declared.option.Option.the-variants.{None, Some}
+use Rattle.layout.specs.declared.superblock.Rebuild.{Rebuild}
+use Rattle.store.specs.Stripes.{diskOf, Spread, Storing, Held, Stored, extra}
 use Rattle.store.proofs.Laws.{went-none, went-then, went-wider, went-longer, shows-went}
 use Rattle.store.proofs.Standing.{holds-once}
 use Rattle.store.proofs.Loads.{disks-apart}
@@ -117,3 +120,11 @@ module _ (sel : ℕ → Bool) (S : Super) (s r : ℕ) (h : ℕ → List ℕ) {x 
               | inr u ↦ absurd (i (one d p u))
             ]
       ]
+
+-- a disk that is being filled costs one ask, and holds what it is asked to
+pub fills-extra : (R : Option Rebuild) (d p r : ℕ) → Fills R d p r → extra R ≡ 1
+fills-extra None d p r f = absurd f
+fills-extra (Some b) d p r f = refl
+
+pub fill-held : (sel : ℕ → Bool) (S : Super) (s r at p : ℕ) (b : List ℕ) {x y : Shelf} {es fs : List Event} → Fills (S .rebuild) at p r → T (sel (index p r)) → Went 1 (Here at s b) x es y fs → Went 1 (Held sel S s r) x es y fs
+fill-held sel S s r at p b f t w = went-wider {n = 1} (omega arith) (λ d u c v. (v .1, (p, (inr (subst (λ (e : ℕ). Fills (S .rebuild) e p r) (sym (v .0)) f), t)))) w

@@ -89,6 +89,11 @@ Stored sel S s r h y = (d p : ℕ) → Holds S d p r → T (sel (index p r)) →
 abbrev pub chosen : List Bool → ℕ → Bool
 chosen bs i = getD bs i false
 
+-- one ask more while a disk is being filled
+abbrev pub extra : Option Rebuild → ℕ
+extra None = 0
+extra (Some b) = 1
+
 -- the disk that is being filled, if it has stripe r already: its number, and the column that it holds
 abbrev pub FillsWith : Option Share → Option Rebuild → ℕ → Type 0
 FillsWith None R r = (d p : ℕ) → Fills R d p r → ⊥

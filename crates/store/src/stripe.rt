@@ -13,7 +13,7 @@ ghost use Rattle.layout.specs.Super.{says, Proper, Joins};
 ghost use Rattle.store.specs.Shelf.{count};
 ghost use Rattle.store.specs.Durable.{Went, Nowhere, Here, Shows, Employed};
 ghost use Rattle.store.specs.Keeping.{Holds};
-ghost use Rattle.store.specs.Stripes.{Serving, Answered, Loaded, Read, Spread, Storing, Held, Stored, FillsWith, chosen};
+ghost use Rattle.store.specs.Stripes.{Serving, Answered, Loaded, Read, Spread, Storing, Held, Stored, FillsWith, extra, chosen};
 use crate::Disks;
 use crate::Gone;
 use crate::answers::read_sector;
@@ -202,13 +202,13 @@ pub fn store<D: Disks>(
     stripe: &[u64],
     which: &Selection,
 ) -> Result<(), Gone>
-    requires left { ⌜ count (length (listed (now b .members .count) (now b .members .disks))) (chosen (now which .columns)) + 1 ≤ shelf (now d) .left ⌝ }
+    requires left { ⌜ count (length (listed (now b .members .count) (now b .members .disks))) (chosen (now which .columns)) + extra (now b .rebuild) ≤ shelf (now d) .left ⌝ }
     requires size { ⌜ s < shelf (now d) .sectors ⌝ }
     requires proper { ⌜ Proper (says (now b)) ⌝ }
     requires serving { ⌜ Serving (shelf (now d)) (listed (now b .members .count) (now b .members .disks)) (now b .members .dead) ⌝ }
     requires employed { ⌜ ((e p t : ℕ) → Holds (says (now b)) e p t → Employed (shelf (now d)) e) ⌝ }
     requires lent { ⌜ length (now stripe) ≡ 64 * length (listed (now b .members .count) (now b .members .disks)) ⌝ }
-    ensures went { λ _. ⌜ Went (count (length (listed (now (b .entry) .members .count) (now (b .entry) .members .disks))) (chosen (now (which .entry) .columns)) + 1) (Held (chosen (now (which .entry) .columns)) (says (now (b .entry))) s r) (shelf (now (d .entry))) (seen (now (d .entry))) (shelf (now (d .exit))) (seen (now (d .exit))) ⌝ }
+    ensures went { λ _. ⌜ Went (count (length (listed (now (b .entry) .members .count) (now (b .entry) .members .disks))) (chosen (now (which .entry) .columns)) + extra (now (b .entry) .rebuild)) (Held (chosen (now (which .entry) .columns)) (says (now (b .entry))) s r) (shelf (now (d .entry))) (seen (now (d .entry))) (shelf (now (d .exit))) (seen (now (d .exit))) ⌝ }
     ensures how { λ v. ⌜ Cases v (λ _. (shelf (now (d .entry)) .on ≡ true → shelf (now (d .exit)) .on ≡ true) × Stored (chosen (now (which .entry) .columns)) (says (now (b .entry))) s r (held (length (listed (now (b .entry) .members .count) (now (b .entry) .members .disks))) (now (stripe .entry))) (shelf (now (d .exit)))) (λ _. shelf (now (d .exit)) .on ≡ false) ⌝ }
 {
     store_members(d, &b.members, s, r, stripe, which)?;

@@ -16,7 +16,7 @@ use Rattle.store.proofs.Standing.{holds-once}
 use Rattle.store.proofs.Laws.{went-then, went-wider, went-longer}
 use Rattle.store.proofs.Truths.{true-T}
 use Rattle.store.proofs.Loads.{serving-went}
-use Rattle.store.proofs.Stores.{spread-held, stored-members, stored-fill}
+use Rattle.store.proofs.Stores.{spread-held, stored-members, stored-fill, fills-extra, fill-held}
 use Rattle.store.proofs.stripe.store.Needs as need
 
 pub returns-in-Break-store-members : need.returns-in-Break-store-members
@@ -43,7 +43,7 @@ write-column-requires g c κs =
     let l = index-within 12 (f .0) (c .args .r) (omega arith) (f .1 .2) in
     let w = c .store-members .ensures .went in
     record {
-      left = omega (arith, w .spent, c .pre .left);
+      left = omega (arith, w .spent, c .pre .left, fills-extra (c .args .b .now .rebuild) (c .in-Some .share .disk) (f .0) (c .args .r) (f .1 .0));
       place = (omega (arith, w .deaths .size, c .pre .size), omega (arith, l, f .1 .1));
       employed = w .deaths .employed _ (c .pre .employed _ (f .0) (c .args .r) (inr (f .1 .0)));
       lent = omega (arith, c .pre .lent, c .many .ensures .is .0);
@@ -56,8 +56,10 @@ returns-in-Break-write-column g c =
     let sel = chosen (c .args .which .now .columns) in
     let f = c .in-Some .ensures tt in
     record {
-      went = went-then (spread-held sel S (c .args .s) (c .args .r) (held (length (S .members)) (c .args .stripe .now)) (c .pre .proper .roster) (c .store-members .ensures .went))
-          (went-wider {n = 1} (omega arith) (λ d s b v. (v .1, (f .0, (inr (subst (λ (e : ℕ). Fills (c .args .b .now .rebuild) e (f .0) (c .args .r)) (sym (v .0)) (f .1 .0)), true-T (ap sel (sym (f .1 .1)) ∙ sym (c .if-has .ensures tt)))))) (c .write-column .ensures .went));
+      went =
+        went-longer (omega (arith, fills-extra (c .args .b .now .rebuild) (c .in-Some .share .disk) (f .0) (c .args .r) (f .1 .0)))
+        (went-then (spread-held sel S (c .args .s) (c .args .r) (held (length (S .members)) (c .args .stripe .now)) (c .pre .proper .roster) (c .store-members .ensures .went))
+          (fill-held sel S (c .args .s) (c .args .r) (c .in-Some .share .disk) (f .0) _ (f .1 .0) (true-T (ap sel (sym (f .1 .1)) ∙ sym (c .if-has .ensures tt))) (c .write-column .ensures .went)));
       how = cases-from-err (c .from-residual-in-Break-write-column .result) _ _ (c .from-residual-in-Break-write-column .ensures .0) (λ _. c .in-Break-write-column .ensures tt .how);
     }
 
@@ -69,8 +71,10 @@ returns-in-Continue-write-column g c =
     let f = c .in-Some .ensures tt in
     let w = c .in-Continue-write-column .ensures tt .how in
     record {
-      went = went-then (spread-held sel S (c .args .s) (c .args .r) h (c .pre .proper .roster) (c .store-members .ensures .went))
-          (went-wider {n = 1} (omega arith) (λ d s b v. (v .1, (f .0, (inr (subst (λ (e : ℕ). Fills (c .args .b .now .rebuild) e (f .0) (c .args .r)) (sym (v .0)) (f .1 .0)), true-T (ap sel (sym (f .1 .1)) ∙ sym (c .if-has .ensures tt)))))) (c .write-column .ensures .went));
+      went =
+        went-longer (omega (arith, fills-extra (c .args .b .now .rebuild) (c .in-Some .share .disk) (f .0) (c .args .r) (f .1 .0)))
+        (went-then (spread-held sel S (c .args .s) (c .args .r) h (c .pre .proper .roster) (c .store-members .ensures .went))
+          (fill-held sel S (c .args .s) (c .args .r) (c .in-Some .share .disk) (f .0) _ (f .1 .0) (true-T (ap sel (sym (f .1 .1)) ∙ sym (c .if-has .ensures tt))) (c .write-column .ensures .went)));
       how = (
         λ _. w .0,
         stored-fill sel S (c .args .s) (c .args .r) h (c .pre .proper .roster) (c .pre .proper) (c .in-Continue-store-members .ensures tt .how) (c .in-Some .share .disk) (f .0) _ (f .1 .0) (f .1 .3) (c .write-column .ensures .went)
