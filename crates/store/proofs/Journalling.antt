@@ -4,19 +4,21 @@ use mathlib.Core.Path.{_≡_, refl, sym, _∙_, ap, subst}
 use mathlib.Core.Logic.{_⊎_, inl, inr, ⊎-elim}
 use mathlib.Core.Bool.{Bool, true, false}
 use mathlib.Core.List.{List}
-use Prim.Native.Nat.{ℕ, _+_, _<_, _≤_}
+use Prim.Native.Nat.{ℕ, _+_, _^_, _<_, _≤_}
 use native.Mathlib.Omega.{arith}
 use lib.Dec.{T}
 use lib.ListN.{length, getD}
 use Rattle.std.proofs.shelf.Tests.{cases-bool}
-use Rattle.std.specs.declared.option.Option.the-variants.{Some}
+use Rattle.std.specs.declared.option.Option.{Option}
+use Rattle.std.specs.declared.option.Option.the-variants.{None, Some}
+use Rattle.layout.specs.declared.superblock.Rebuild.{Rebuild}
 use Rattle.layout.specs.Places.{index}
-use Rattle.layout.specs.Super.{Super, Proper}
+use Rattle.layout.specs.Super.{Super, Joins, Proper}
 use Rattle.layout.specs.declared.members.Marks.{Marks}
 use Rattle.store.specs.Event.{Event}
 use Rattle.store.specs.Shelf.{Shelf}
 use Rattle.store.specs.Durable.{Among, Shows, Settled, Nowhere, Went}
-use Rattle.store.specs.Keeping.{Columns, slot, home, Holds, Kept, Sound, Torn, Placed, Ready, Left}
+use Rattle.store.specs.Keeping.{Columns, slot, home, Fills, Holds, Kept, Sound, Torn, Placed, Ready, Left}
 use Rattle.store.specs.Commits.{Heading, After, Committed, Interrupted}
 use Rattle.store.specs.Stripes.{Serving, Held, Stored}
 use Rattle.store.specs.Writes.{MarksTrue, journalling, InPlace, Changes, Journalled, Unjournalled, Placing, Unplaced}
@@ -104,3 +106,17 @@ module _ (S : Super) (r : ℕ) (h : ℕ → List ℕ) (sel : ℕ → Bool) (j : 
                   ]);
             };
       }
+
+-- ---- the next superblock
+
+fills-low : (R : Option Rebuild) (ds : List ℕ) (d p r : ℕ) → Joins R ds → Fills R d p r → p < 12
+fills-low None ds d p r j f = absurd f
+fills-low (Some b) ds d p r j f = subst (λ (q : ℕ). q < 12) (sym (f .0)) (j .1)
+
+-- who holds a place holds one below twelve
+pub holds-low : (S : Super) → Proper S → (d p r : ℕ) → Holds S d p r → p < 12
+holds-low S k d p r (inl u) = omega (arith, u .0, k .roster .most)
+holds-low S k d p r (inr u) = fills-low (S .rebuild) (S .members) d p r (k .joins) u
+
+pub proper-journalling : (S : Super) (r : ℕ) → Proper S → r + 1 < 2 ^ 64 → Proper (journalling S r)
+proper-journalling S r k l = record { roster = k .roster; joins = k .joins; numbered = l }

@@ -23,6 +23,7 @@ mod journal;
 mod recovery;
 mod selection;
 mod stripe;
+mod write;
 
 // What a disk answers. Dead: it has died, for ever. Dark: the power has gone, and every disk answers so from then on.
 #[derive(Clone, Copy)]
