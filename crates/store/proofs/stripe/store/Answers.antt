@@ -57,8 +57,8 @@ returns-in-Break-write-column g c =
     let f = c .in-Some .ensures tt in
     record {
       went =
-        went-longer (omega (arith, fills-extra (c .args .b .now .rebuild) (c .in-Some .share .disk) (f .0) (c .args .r) (f .1 .0)))
-        (went-then (spread-held sel S (c .args .s) (c .args .r) (held (length (S .members)) (c .args .stripe .now)) (c .pre .proper .roster) (c .store-members .ensures .went))
+          went-longer (omega (arith, fills-extra (c .args .b .now .rebuild) (c .in-Some .share .disk) (f .0) (c .args .r) (f .1 .0)))
+          (went-then (spread-held sel S (c .args .s) (c .args .r) (held (length (S .members)) (c .args .stripe .now)) (c .pre .proper .roster) (c .store-members .ensures .went))
           (fill-held sel S (c .args .s) (c .args .r) (c .in-Some .share .disk) (f .0) _ (f .1 .0) (true-T (ap sel (sym (f .1 .1)) ∙ sym (c .if-has .ensures tt))) (c .write-column .ensures .went)));
       how = cases-from-err (c .from-residual-in-Break-write-column .result) _ _ (c .from-residual-in-Break-write-column .ensures .0) (λ _. c .in-Break-write-column .ensures tt .how);
     }
@@ -72,8 +72,8 @@ returns-in-Continue-write-column g c =
     let w = c .in-Continue-write-column .ensures tt .how in
     record {
       went =
-        went-longer (omega (arith, fills-extra (c .args .b .now .rebuild) (c .in-Some .share .disk) (f .0) (c .args .r) (f .1 .0)))
-        (went-then (spread-held sel S (c .args .s) (c .args .r) h (c .pre .proper .roster) (c .store-members .ensures .went))
+          went-longer (omega (arith, fills-extra (c .args .b .now .rebuild) (c .in-Some .share .disk) (f .0) (c .args .r) (f .1 .0)))
+          (went-then (spread-held sel S (c .args .s) (c .args .r) h (c .pre .proper .roster) (c .store-members .ensures .went))
           (fill-held sel S (c .args .s) (c .args .r) (c .in-Some .share .disk) (f .0) _ (f .1 .0) (true-T (ap sel (sym (f .1 .1)) ∙ sym (c .if-has .ensures tt))) (c .write-column .ensures .went)));
       how = (
         λ _. w .0,

@@ -25,8 +25,13 @@ store-requires g c κs =
     let all = count-all (length (S .members)) (chosen (c .all .result .columns)) in
     let low = slot-low (S .generation + 1) in
     record {
-      left = omega (arith, all, c .pre .left); size = omega (arith, c .slot-of-slot .ensures, low .1, k .least); proper = k .proper; serving = serving-kept (c .args .b .now .members .dead) k (c .pre .marks);
-      employed = k .employed; lent = c .pre .lent .0 }
+      left = omega (arith, all, c .pre .left);
+      size = omega (arith, c .slot-of-slot .ensures, low .1, k .least);
+      proper = k .proper;
+      serving = serving-kept (c .args .b .now .members .dead) k (c .pre .marks);
+      employed = k .employed;
+      lent = c .pre .lent .0;
+    }
 
 pub returns-in-Break-store : need.returns-in-Break-store
 returns-in-Break-store g c =
@@ -34,9 +39,11 @@ returns-in-Break-store g c =
     let w = c .store .ensures .went in
     let all = count-all (length (S .members)) (chosen (c .all .result .columns)) in
     record {
-      deaths = w .deaths; spent = omega (arith, w .spent, all);
+      deaths = w .deaths;
+      spent = omega (arith, w .spent, all);
       how = cases-from-err (c .from-residual .result) _ _ (c .from-residual .ensures .0)
-        (λ _. unjournalled-first S (c .args .r) (held (length (S .members)) (c .args .stripe .now)) (chosen (c .all .result .columns)) (c .slot-of-slot .ensures) w (c .in-Break-store .ensures tt .how)) }
+          (λ _. unjournalled-first S (c .args .r) (held (length (S .members)) (c .args .stripe .now)) (chosen (c .all .result .columns)) (c .slot-of-slot .ensures) w (c .in-Break-store .ensures tt .how));
+    }
 
 pub commit-requires : need.commit-requires
 commit-requires g c κs =
@@ -45,8 +52,12 @@ commit-requires g c κs =
     let w = c .store .ensures .went in
     let all = count-all (length (S .members)) (chosen (c .all .result .columns)) in
     record {
-      left = omega (arith, w .spent, all, c .pre .left); size = omega (arith, w .deaths .size, k .least); proper = proper-journalling S (c .args .r) (k .proper) (omega (arith, c .pre .place, k .most));
-      employed = λ p l. w .deaths .employed _ (k .employed _ p 0 (member-holds S p 0 (three-members S p (k .proper) l))); lent = c .pre .lent .1 }
+      left = omega (arith, w .spent, all, c .pre .left);
+      size = omega (arith, w .deaths .size, k .least);
+      proper = proper-journalling S (c .args .r) (k .proper) (omega (arith, c .pre .place, k .most));
+      employed = λ p l. w .deaths .employed _ (k .employed _ p 0 (member-holds S p 0 (three-members S p (k .proper) l)));
+      lent = c .pre .lent .1;
+    }
 
 pub returns : need.returns
 returns g c =
@@ -61,7 +72,9 @@ returns g c =
     let every = λ (d p : ℕ) (a : Holds S d p r). true-T (c .all .ensures (index p r) (index-within 12 p r (omega arith) (holds-low S (k .proper) d p r a))) in
     let st = c .in-Continue-store .ensures tt .how .1 in
     record {
-      deaths = deaths-then (w .deaths) (v .deaths); spent = omega (arith, w .spent, v .spent, all);
+      deaths = deaths-then (w .deaths) (v .deaths);
+      spent = omega (arith, w .spent, v .spent, all);
       how = cases-weaker (c .commit .result) (c .commit .ensures .how)
-        (λ _ q. (refl, refl, journalled-now S r h sel (c .slot-of-slot .ensures) w every st (c .pre .place) v q))
-        (λ _ q. unjournalled-later S r h sel (c .slot-of-slot .ensures) w every st (c .pre .place) q) }
+          (λ _ q. (refl, refl, journalled-now S r h sel (c .slot-of-slot .ensures) w every st (c .pre .place) v q))
+          (λ _ q. unjournalled-later S r h sel (c .slot-of-slot .ensures) w every st (c .pre .place) q);
+    }

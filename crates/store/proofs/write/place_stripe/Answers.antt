@@ -13,7 +13,13 @@ pub store-requires : need.store-requires
 store-requires g c κs =
     let k = c .pre .sound .1 .kept in
     record {
-      left = c .pre .left; size = c .pre .place .0; proper = k .proper; serving = serving-kept (c .args .b .now .members .dead) k (c .pre .marks); employed = k .employed; lent = c .pre .lent }
+      left = c .pre .left;
+      size = c .pre .place .0;
+      proper = k .proper;
+      serving = serving-kept (c .args .b .now .members .dead) k (c .pre .marks);
+      employed = k .employed;
+      lent = c .pre .lent;
+    }
 
 pub returns : need.returns
 returns g c =
@@ -23,7 +29,9 @@ returns g c =
     let h = held (length (S .members)) (c .args .stripe .now) in
     let w = c .store .ensures .went in
     record {
-      deaths = w .deaths; spent = w .spent;
+      deaths = w .deaths;
+      spent = w .spent;
       how = cases-weaker (c .store .result) (c .store .ensures .how)
-        (λ _ v. placing S (c .args .r) h sel (c .pre .place .1 .1) w (v .0) (k .proper) (c .pre .place .0) (λ d p q a b. holds-once S (k .proper) d p q (c .args .r) (c .args .r) a b) (v .1))
-        (λ _ o. unplaced S (c .args .r) h sel (c .pre .place .1 .1) w o) }
+          (λ _ v. placing S (c .args .r) h sel (c .pre .place .1 .1) w (v .0) (k .proper) (c .pre .place .0) (λ d p q a b. holds-once S (k .proper) d p q (c .args .r) (c .args .r) a b) (v .1))
+          (λ _ o. unplaced S (c .args .r) h sel (c .pre .place .1 .1) w o);
+    }
