@@ -2,12 +2,12 @@
 -- Assumes nothing.
 use mathlib.Core.Path.{_≡_, refl, sym, ap, ap₂, _∙_, subst}
 use mathlib.Core.List.{List, [], _∷_}
-use mathlib.Core.Logic.{_⊎_, inl, inr, _≢_}
-use Prim.Native.Nat.{ℕ, zero, suc, _+_, _-_, _*_, _^_, _<_, _≤_}
+use mathlib.Core.Logic.{inl, inr, _≢_}
+use Prim.Native.Nat.{ℕ, zero, suc, _+_, _-_, _^_, _<_, _≤_}
 use native.Mathlib.Omega.{arith}
 use lib.Bits.{bitXor, xor-assoc, xor-self, xor-zero-r, xor-lt}
 use lib.Dec.{T, eqb, eqb→eq, lit<}
-use lib.ListN.{length, getD, replicate}
+use lib.ListN.{getD, replicate}
 use Rattle.std.proofs.shelf.Lists.{getD-replicate, getD-past}
 use Rattle.std.proofs.shelf.Tests.{cases-lt, cases-eq}
 use Rattle.field.specs.Field.{sum, double, productBy, product, power, neighbour}
@@ -16,7 +16,7 @@ use Rattle.field.specs.Column.{Sector, noughts, Good, byteAt, total, IsP, IsQ}
 use Rattle.field.specs.Stripe.{dataOf, Codeword, Blank, Grows, Unique, six, Example}
 use Rattle.field.proofs.Linear.{all, all-at}
 use Rattle.field.proofs.Powers.{power-undone}
-use Rattle.field.proofs.Products.{product-lt, product-sum}
+use Rattle.field.proofs.Products.{product-sum}
 use Rattle.field.proofs.Eight.{byte-lt}
 use Rattle.field.proofs.Totals.{total-same, total-sum, total-one, total-two, good-noughts, byte-noughts, same-sector}
 use Rattle.field.proofs.Parities.{product-zero, noughts-change-nothing, nothing-behind, only-one}
@@ -188,10 +188,14 @@ good-filled n h = record {
 filled-at : (n w b : ℕ) → w < 64 → byteAt w b (replicate 64 n) ≡ byte b n
 filled-at n w b h = ap (byte b) (getD-replicate 64 w n 0 h)
 
-P-test : T (all 8 (λ b. eqb (byte b 12) (total 4 (λ j. byte b (getD (7 ∷ 8 ∷ 9 ∷ 10 ∷ []) j 0)))))
+-- the data, of which six has P and Q before them
+abbrev fillings : List ℕ
+fillings = 7 ∷ 8 ∷ 9 ∷ 10 ∷ []
+
+P-test : T (all 8 (λ b. eqb (byte b 12) (total 4 (λ j. byte b (getD fillings j 0)))))
 P-test = tt
 
-Q-test : T (all 8 (λ b. eqb (byte b 99) (total 4 (λ j. product (power j) (byte b (getD (7 ∷ 8 ∷ 9 ∷ 10 ∷ []) j 0))))))
+Q-test : T (all 8 (λ b. eqb (byte b 99) (total 4 (λ j. product (power j) (byte b (getD fillings j 0))))))
 unfolding power double productBy
 Q-test = tt
 
@@ -204,10 +208,10 @@ good-six (suc (suc (suc (suc zero)))) = good-filled 9 (lit< tt)
 good-six (suc (suc (suc (suc (suc zero))))) = good-filled 10 (lit< tt)
 good-six (suc (suc (suc (suc (suc (suc i)))))) = good-noughts
 
-six-at : (w b : ℕ) → w < 64 → (j : ℕ) → byteAt w b (six (2 + j)) ≡ byte b (getD (7 ∷ 8 ∷ 9 ∷ 10 ∷ []) j 0)
+six-at : (w b : ℕ) → w < 64 → (j : ℕ) → byteAt w b (six (2 + j)) ≡ byte b (getD fillings j 0)
 six-at w b h j =
     let e : 2 + j ≡ suc (suc j) = omega arith in
-    ap (λ (i : ℕ). byteAt w b (six i)) e ∙ filled-at (getD (7 ∷ 8 ∷ 9 ∷ 10 ∷ []) j 0) w b h
+    ap (λ (i : ℕ). byteAt w b (six i)) e ∙ filled-at (getD fillings j 0) w b h
 
 six-codeword : Codeword 6 six
 six-codeword = record {
@@ -216,15 +220,15 @@ six-codeword = record {
   parityP = record {
     good = good-six 0;
     bytes = λ w b lw lb.
-        filled-at 12 w b lw ∙ eqb→eq (byte b 12) (total 4 (λ j. byte b (getD (7 ∷ 8 ∷ 9 ∷ 10 ∷ []) j 0))) (all-at 8 (λ b. eqb (byte b 12) (total 4 (λ j. byte b (getD (7 ∷ 8 ∷ 9 ∷ 10 ∷ []) j 0)))) P-test b lb)
-        ∙ sym (total-same 4 (λ j. byteAt w b (six (2 + j))) (λ j. byte b (getD (7 ∷ 8 ∷ 9 ∷ 10 ∷ []) j 0)) (λ j l. six-at w b lw j));
+        filled-at 12 w b lw ∙ eqb→eq (byte b 12) (total 4 (λ j. byte b (getD fillings j 0))) (all-at 8 (λ b. eqb (byte b 12) (total 4 (λ j. byte b (getD fillings j 0)))) P-test b lb)
+        ∙ sym (total-same 4 (λ j. byteAt w b (six (2 + j))) (λ j. byte b (getD fillings j 0)) (λ j l. six-at w b lw j));
   };
   parityQ = record {
     good = good-six 1;
     bytes = λ w b lw lb.
         filled-at 99 w b lw
-        ∙ eqb→eq (byte b 99) (total 4 (λ j. product (power j) (byte b (getD (7 ∷ 8 ∷ 9 ∷ 10 ∷ []) j 0)))) (all-at 8 (λ b. eqb (byte b 99) (total 4 (λ j. product (power j) (byte b (getD (7 ∷ 8 ∷ 9 ∷ 10 ∷ []) j 0))))) Q-test b lb)
-        ∙ sym (total-same 4 (λ j. product (power j) (byteAt w b (six (2 + j)))) (λ j. product (power j) (byte b (getD (7 ∷ 8 ∷ 9 ∷ 10 ∷ []) j 0))) (λ j l. ap (product (power j)) (six-at w b lw j)));
+        ∙ eqb→eq (byte b 99) (total 4 (λ j. product (power j) (byte b (getD fillings j 0)))) (all-at 8 (λ b. eqb (byte b 99) (total 4 (λ j. product (power j) (byte b (getD fillings j 0))))) Q-test b lb)
+        ∙ sym (total-same 4 (λ j. product (power j) (byteAt w b (six (2 + j)))) (λ j. product (power j) (byte b (getD fillings j 0))) (λ j l. ap (product (power j)) (six-at w b lw j)));
   };
 }
 

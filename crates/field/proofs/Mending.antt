@@ -1,16 +1,16 @@
 -- What is had again is the codeword's.
 -- Assumes nothing.
-use mathlib.Core.Path.{_≡_, refl, sym, ap, ap₂, _∙_, subst}
+use mathlib.Core.Path.{_≡_, sym, ap, ap₂, _∙_, subst}
 use mathlib.Core.List.{List, map}
-use mathlib.Core.Logic.{_⊎_, inl, inr, _≢_}
-use Prim.Native.Nat.{ℕ, zero, suc, _+_, _-_, _*_, _<_, _≤_}
+use mathlib.Core.Logic.{inl, inr, _≢_}
+use Prim.Native.Nat.{ℕ, _+_, _-_, _<_, _≤_}
 use native.Mathlib.Omega.{arith}
-use lib.ListN.{length, getD}
+use lib.ListN.{getD}
 use Rattle.std.proofs.shelf.Tests.{cases-eq}
 use Rattle.field.specs.Field.{sum, product, power}
 use Rattle.field.specs.Word.{product8}
-use Rattle.field.specs.Column.{Sector, noughts, Good, byteAt, total, IsP, IsQ, Rests, Solves}
-use Rattle.field.specs.Stripe.{column, dataOf, Codeword, Lies, LiesBut, Written, Anew, Left, Restores, MendsTwo}
+use Rattle.field.specs.Column.{Sector, noughts, Good, byteAt, total, Rests, Solves}
+use Rattle.field.specs.Stripe.{column, dataOf, Codeword, Written, Anew, Left, Restores, MendsTwo}
 use Rattle.field.proofs.Powers.{power-undone}
 use Rattle.field.proofs.Eight.{byte-lt}
 use Rattle.field.proofs.Totals.{byte-noughts, byte-scaled, good-scaled, same-sector}

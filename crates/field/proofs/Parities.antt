@@ -1,14 +1,13 @@
 -- Laws of P and Q of some columns.
 -- Assumes nothing.
-use mathlib.Core.Path.{_≡_, refl, sym, ap, ap₂, _∙_, subst}
+use mathlib.Core.Path.{_≡_, sym, ap, ap₂, _∙_}
 use mathlib.Core.Logic.{_≢_}
-use Prim.Native.Nat.{ℕ, zero, suc, _+_, _-_, _<_, _≤_}
+use Prim.Native.Nat.{ℕ, _<_}
 use native.Mathlib.Numerals.{add-one}
-use native.Mathlib.Omega.{arith}
 use lib.Bits.{bitXor, xor-self, xor-zero-r}
 use lib.Dec.{lit<}
 use Rattle.field.specs.Field.{sum, product, power}
-use Rattle.field.specs.Column.{Sector, noughts, byteAt, total, IsP, IsQ, NoughtsChangeNothing, NothingBehind, OnlyOne}
+use Rattle.field.specs.Column.{Sector, byteAt, total, NoughtsChangeNothing, NothingBehind, OnlyOne}
 use Rattle.field.proofs.Products.{product-sum}
 use Rattle.field.proofs.Totals.{total-same, total-sum, total-one, total-two, byte-noughts, same-sector}
 

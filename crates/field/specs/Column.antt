@@ -1,9 +1,9 @@
 -- A sector is 64 words, so 512 elements of the field. P and Q of data columns are said here element by element.
 -- Assumes nothing.
-use mathlib.Core.List.{List, [], _∷_, map}
+use mathlib.Core.List.{List, [], _∷_}
 use mathlib.Core.Path.{_≡_}
-use Prim.Native.Nat.{ℕ, zero, suc, _+_, _-_, _*_, _^_, _<_, _≤_}
-use lib.ListN.{length, getD, take, drop, replicate}
+use Prim.Native.Nat.{ℕ, zero, suc, _+_, _^_, _<_}
+use lib.ListN.{length, getD, replicate}
 use Rattle.field.specs.Field.{sum, product, power}
 use Rattle.field.specs.Word.{byte}
 
