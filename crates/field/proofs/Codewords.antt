@@ -48,6 +48,17 @@ grows k c few cw =
       parityQ = subst (λ (n : ℕ). IsQ n (dataOf c) (c 1)) e (more .1 (c 1) (cw .parityQ));
     }
 
+-- what has a codeword's columns is one
+pub codeword-same : (k : ℕ) (c d : ℕ → Sector) → ((i : ℕ) → c i ≡ d i) → Codeword k c → Codeword k d
+codeword-same k c d e cw =
+    let to = nothing-behind (k - 2) (dataOf c) (dataOf d) (λ j l. e (2 + j)) in
+    record {
+      good = λ i. subst Good (e i) (cw .good i);
+      beyond = λ i h. sym (e i) ∙ cw .beyond i h;
+      parityP = subst (IsP (k - 2) (dataOf d)) (e 0) (to .0 (c 0) (cw .parityP));
+      parityQ = subst (IsQ (k - 2) (dataOf d)) (e 1) (to .1 (c 1) (cw .parityQ));
+    }
+
 -- ---- codewords that agree in all columns but two
 
 no-sum : (a b : ℕ) → sum a b ≡ 0 → a ≡ b
@@ -55,7 +66,7 @@ no-sum a b e =
     sym (xor-zero-r a) ∙ ap (bitXor a) (sym (xor-self b)) ∙ sym (xor-assoc a b b) ∙ ap (λ (x : ℕ). bitXor x b) e
 
 -- codewords that agree in their data agree
-same-data : (k : ℕ) (c d : ℕ → Sector) → 2 ≤ k → Codeword k c → Codeword k d → ((j : ℕ) → j < k - 2 → c (2 + j) ≡ d (2 + j)) → (i : ℕ) → c i ≡ d i
+pub same-data : (k : ℕ) (c d : ℕ → Sector) → 2 ≤ k → Codeword k c → Codeword k d → ((j : ℕ) → j < k - 2 → c (2 + j) ≡ d (2 + j)) → (i : ℕ) → c i ≡ d i
 same-data k c d few cw dw same i =
     let to = nothing-behind (k - 2) (dataOf c) (dataOf d) same in
     let one = only-one (k - 2) (dataOf d) in

@@ -7,9 +7,11 @@ use lib.ListN.{length, getD, replicate}
 use Rattle.field.specs.Field.{sum, product, power}
 use Rattle.field.specs.Word.{byte}
 
+-- what a column has at one place of the disks: its words
 abbrev pub Sector : Type 0
 Sector = List ℕ
 
+-- a sector of which every word is 0
 abbrev pub noughts : Sector
 noughts = replicate 64 0
 

@@ -23,6 +23,7 @@ pub record Codeword (k : ℕ) (c : ℕ → Sector) : Type 0 where
 
 -- ---- a stripe in a slice of words, one column behind the other
 
+-- column i of a slice
 abbrev pub column : ℕ → List ℕ → Sector
 column i s = take 64 (drop (64 * i) s)
 
