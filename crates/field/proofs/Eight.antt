@@ -1,16 +1,15 @@
 -- A word's eight elements are added, doubled and multiplied apart, and the word is known by them.
 -- Assumes nothing.
 use mathlib.Core.Path.{_≡_, refl, sym, ap, ap₂, _∙_, subst}
-use mathlib.Core.Bool.{Bool}
 use Prim.Native.Nat.{ℕ, zero, suc, _+_, _-_, _*_, _/_, _%_, _^_, _<_, _≤_}
 use native.Mathlib.Nat.{mod-lt, div-one, div-eq-of-lt, div-add-mod', mul-suc}
 use native.Mathlib.Omega.{arith}
-use lib.Dec.{T, eqb, eqb→eq, lit<}
+use lib.Dec.{T, lit<}
 use lib.Pow.{pow-mono}
 use lib.Bits.{bitAnd, bitXor, xor-lt, xor-shifted, and-le-r}
 use Rattle.std.proofs.shelf.Bits.{shr-shr, shr-below}
-use Rattle.field.specs.Field.{sum, double, pick, productBy, product}
-use Rattle.field.specs.Word.{byte, carried, double8, product8, EightElements}
+use Rattle.field.specs.Field.{double, pick, productBy}
+use Rattle.field.specs.Word.{byte, double8, EightElements}
 use Rattle.field.proofs.Linear.{Linear, linear-zero, linear-after, linear-shl, linear-shr, linear-mod, all, all-at, agree, ext}
 use Rattle.field.proofs.Products.{linear-double8, double-is, double-lt, pick-lt}
 

@@ -1,6 +1,6 @@
 -- P and Q, gathered from the last column to the first.
 -- Assumes nothing.
-use mathlib.Core.Path.{_≡_, refl, sym, ap, ap₂, _∙_, subst}
+use mathlib.Core.Path.{_≡_, sym, ap, ap₂, _∙_, subst}
 use mathlib.Core.List.{List, map}
 use mathlib.Core.Logic.{inl, inr}
 use Prim.Native.Nat.{ℕ, zero, suc, _+_, _-_, _*_, _^_, _<_, _≤_}
@@ -8,14 +8,14 @@ use native.Mathlib.Nat.{add-zero}
 use native.Mathlib.Omega.{arith}
 use lib.Bits.{bitXor, xor-comm, xor-lt}
 use lib.Dec.{lit<}
-use lib.ListN.{length, getD, take, drop, replicate, length-take}
+use lib.ListN.{length, getD, drop, replicate, length-take}
 use Rattle.std.proofs.shelf.Lists.{getD-take, getD-drop, getD-past}
 use Rattle.std.proofs.shelf.Tests.{cases-lt}
 use Rattle.field.specs.Field.{double, product, power, iterate}
 use Rattle.field.specs.Word.{byte, double8}
 use Rattle.field.specs.Column.{Sector, Good, byteAt, total, add, IsP, IsQ}
 use Rattle.field.specs.Stripe.{column, dataOf, Left}
-use Rattle.field.proofs.Linear.{Linear, linear-zero}
+use Rattle.field.proofs.Linear.{linear-zero}
 use Rattle.field.proofs.Products.{linear-double8, product-one}
 use Rattle.field.proofs.Powers.{power-none, product-more}
 use Rattle.field.proofs.Eight.{byte-lt, linear-byte, byte-double, double8-lt}

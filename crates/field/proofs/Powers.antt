@@ -1,14 +1,13 @@
 -- Powers of 2: exponents add, and 2^255 is 1.
 -- Assumes nothing.
-use mathlib.Core.Path.{_≡_, refl, sym, ap, ap₂, _∙_, subst}
-use mathlib.Core.Bool.{Bool}
-use Prim.Native.Nat.{ℕ, zero, suc, _+_, _-_, _*_, _<_, _≤_}
+use mathlib.Core.Path.{_≡_, refl, sym, ap, _∙_}
+use Prim.Native.Nat.{ℕ, zero, suc, _+_, _-_, _<_, _≤_}
 use native.Mathlib.Nat.{zero-add, suc-add}
 use native.Mathlib.Omega.{arith}
 use lib.Dec.{T, eqb, eqb→eq, lit<}
 use Rattle.field.specs.Field.{sum, double, product, power, neighbour, PowersOfTwo}
 use Rattle.field.proofs.Linear.{all, all-at}
-use Rattle.field.proofs.Products.{double-lt, product-lt, product-comm, product-assoc, product-one, product-two}
+use Rattle.field.proofs.Products.{double-lt, product-lt, product-assoc, product-one, product-two}
 
 pub power-none : power 0 ≡ 1
 unfolding power

@@ -1,13 +1,12 @@
 -- Bytes are a field: each law from one computed test, at the bytes that have one bit or at all of them.
 -- Assumes nothing.
-use mathlib.Core.Path.{_≡_, refl, sym, ap, ap₂, _∙_, subst}
-use mathlib.Core.Bool.{Bool}
-use Prim.Native.Nat.{ℕ, zero, suc, _+_, _*_, _/_, _%_, _^_, _<_}
+use mathlib.Core.Path.{_≡_, refl, sym, ap, ap₂, _∙_}
+use Prim.Native.Nat.{ℕ, zero, suc, _*_, _/_, _%_, _^_, _<_}
 use native.Mathlib.Nat.{le-of-suc-le-suc, not-suc-le-zero, mod-lt}
 use native.Mathlib.Omega.{arith}
 use lib.Dec.{T, eqb, ltb, eqb→eq, ltb→lt, lit<}
 use lib.Bits.{bitAnd, bitXor, xor-self, xor-comm, xor-assoc, xor-zero-r, xor-lt}
-use Rattle.field.specs.Field.{sum, double, pick, productBy, product, squares, inverse, SumsAreAGroup, ProductsAreAField}
+use Rattle.field.specs.Field.{sum, double, pick, productBy, product, inverse, SumsAreAGroup, ProductsAreAField}
 use Rattle.field.specs.Word.{carried, double8, product8}
 use Rattle.field.proofs.Linear.{Linear, linear-id, linear-after, linear-sum, linear-and, linear-shl, linear-shr, linear-mod, all, all-at, agree, ext, ext′}
 

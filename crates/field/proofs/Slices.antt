@@ -1,16 +1,15 @@
 -- A column in a slice, after a write.
 -- Assumes nothing.
-use mathlib.Core.Path.{_≡_, refl, sym, ap, _∙_, subst}
+use mathlib.Core.Path.{_≡_, sym, ap, _∙_, subst}
 use mathlib.Core.List.{List}
 use mathlib.Core.Logic.{inl, inr, _≢_}
 use Prim.Native.Nat.{ℕ, _+_, _-_, _*_, _<_, _≤_}
 use native.Mathlib.Omega.{arith}
-use lib.ListN.{length, getD, take, drop, length-take, length-drop, length-append}
+use lib.ListN.{length, take, drop, length-take, length-drop, length-append}
 use borrow.Rule.Slice.PartMut.{putMid}
-use Rattle.std.proofs.shelf.Lists.{getD-take, getD-drop, getD-past}
 use Rattle.std.proofs.shelf.Tests.{cases-lt}
 use Rattle.std.proofs.shelf.Parts.{between-is, take-putMid-below, between-putMid, drop-putMid}
-use Rattle.field.specs.Column.{Sector, Good}
+use Rattle.field.specs.Column.{Sector}
 use Rattle.field.specs.Stripe.{column, Written}
 
 module _ (n m : ℕ) (xs ys : List ℕ) (l : 64 * n + 64 ≤ length xs) (q : length ys ≡ 64) (w : m ≡ 64) where

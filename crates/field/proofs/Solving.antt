@@ -1,6 +1,6 @@
 -- Two data columns from what is left of P and Q.
 -- Assumes nothing.
-use mathlib.Core.Path.{_≡_, refl, sym, ap, ap₂, _∙_, subst}
+use mathlib.Core.Path.{_≡_, sym, ap, ap₂, _∙_, subst}
 use mathlib.Core.List.{map}
 use Prim.Native.Nat.{ℕ, zero, suc, _+_, _-_, _<_, _≤_}
 use native.Mathlib.Omega.{arith}
@@ -9,7 +9,7 @@ use lib.Dec.{T, leb, leb→le, lit<}
 use lib.ListN.{getD}
 use Rattle.field.specs.Field.{sum, product, power, neighbour}
 use Rattle.field.specs.Word.{product8}
-use Rattle.field.specs.Column.{Sector, Good, byteAt, add, Rests, Solves}
+use Rattle.field.specs.Column.{Sector, Good, byteAt, add, Solves}
 use Rattle.field.proofs.Linear.{xor-swap, all, all-at}
 use Rattle.field.proofs.Products.{product-lt, product-comm, product-sum, product-one}
 use Rattle.field.proofs.Powers.{power-lt, power-power, power-round, power-undone, neighbour-is}

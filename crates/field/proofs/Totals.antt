@@ -1,18 +1,18 @@
 -- Sums of n terms, and sectors element by element.
 -- Assumes nothing.
 use mathlib.Core.Path.{_≡_, refl, sym, ap, ap₂, _∙_, subst}
-use mathlib.Core.List.{List, [], _∷_, map}
-use mathlib.Core.Logic.{_⊎_, inl, inr, _≢_}
-use Prim.Native.Nat.{ℕ, zero, suc, _+_, _-_, _*_, _^_, _<_, _≤_}
+use mathlib.Core.List.{[], _∷_, map}
+use mathlib.Core.Logic.{inl, inr, _≢_}
+use Prim.Native.Nat.{ℕ, zero, suc, _^_, _<_}
 use native.Mathlib.Nat.{not-suc-le-zero}
 use native.Mathlib.Omega.{arith}
-use lib.Bits.{bitXor, xor-comm, xor-assoc, xor-self, xor-zero-r, xor-lt}
+use lib.Bits.{bitXor, xor-assoc, xor-zero-r, xor-lt}
 use lib.Dec.{lit<}
-use lib.ListN.{length, getD, set, replicate}
-use Rattle.std.proofs.shelf.Lists.{same-lists, getD-default, length-replicate, length-map}
+use lib.ListN.{length, getD, replicate}
+use Rattle.std.proofs.shelf.Lists.{same-lists, getD-default, length-map}
 use Rattle.std.proofs.shelf.Tests.{cases-eq}
-use Rattle.field.specs.Field.{sum, double, product, power}
-use Rattle.field.specs.Word.{byte, double8, product8}
+use Rattle.field.specs.Field.{sum, product}
+use Rattle.field.specs.Word.{byte, product8}
 use Rattle.field.specs.Column.{Sector, noughts, Good, byteAt, total, add}
 use Rattle.field.proofs.Linear.{Linear, linear-zero, xor-swap}
 use Rattle.field.proofs.Products.{linear-product8N}
@@ -61,10 +61,6 @@ total-two (suc n) f x y xy l h = elim (cases-eq y n) [
       ap₂ bitXor (total-two n f x y xy (omega arith) (λ j m d d′. h j (omega arith) d d′)) (h n (omega arith) (omega arith) (λ e. ne (sym e)))
       ∙ xor-zero-r (bitXor (f x) (f y))
 ]
-
--- what a part of the terms leaves of the whole: the other part
-pub total-left : (n : ℕ) (f g h : ℕ → ℕ) → ((j : ℕ) → j < n → bitXor (g j) (f j) ≡ h j) → bitXor (total n g) (total n f) ≡ total n h
-total-left n f g h e = total-sum n g f ∙ total-same n (λ j. bitXor (g j) (f j)) h e
 
 -- ---- sectors, word by word
 

@@ -1,15 +1,17 @@
 -- A sector is 64 words, so 512 elements of the field. P and Q of data columns are said here element by element.
 -- Assumes nothing.
-use mathlib.Core.List.{List, [], _∷_, map}
+use mathlib.Core.List.{List, [], _∷_}
 use mathlib.Core.Path.{_≡_}
-use Prim.Native.Nat.{ℕ, zero, suc, _+_, _-_, _*_, _^_, _<_, _≤_}
-use lib.ListN.{length, getD, take, drop, replicate}
+use Prim.Native.Nat.{ℕ, zero, suc, _+_, _^_, _<_}
+use lib.ListN.{length, getD, replicate}
 use Rattle.field.specs.Field.{sum, product, power}
 use Rattle.field.specs.Word.{byte}
 
+-- what a column has at one place of the disks: its words
 abbrev pub Sector : Type 0
 Sector = List ℕ
 
+-- a sector of which every word is 0
 abbrev pub noughts : Sector
 noughts = replicate 64 0
 
@@ -27,15 +29,25 @@ abbrev pub total : ℕ → (ℕ → ℕ) → ℕ
 total zero f = 0
 total (suc n) f = sum (total n f) (f n)
 
--- p is P of the n columns d 0, d 1, ..: their sum
-pub record IsP (n : ℕ) (d : ℕ → Sector) (p : Sector) : Type 0 where
-  pub good : Good p
-  pub bytes : (w b : ℕ) → w < 64 → b < 8 → byteAt w b p ≡ total n (λ j. byteAt w b (d j))
+-- s is the sum of the n columns d 0, d 1, .., of whose elements column j's are taken by f j
+pub record IsSum (f : ℕ → ℕ → ℕ) (n : ℕ) (d : ℕ → Sector) (s : Sector) : Type 0 where
+  pub good : Good s
+  pub bytes : (w b : ℕ) → w < 64 → b < 8 → byteAt w b s ≡ total n (λ j. f j (byteAt w b (d j)))
+
+-- an element of column j as it is, and times 2^j
+abbrev pub plain : ℕ → ℕ → ℕ
+plain j v = v
+
+abbrev pub raised : ℕ → ℕ → ℕ
+raised j v = product (power j) v
+
+-- p is P of them: their sum
+abbrev pub IsP : ℕ → (ℕ → Sector) → Sector → Type 0
+IsP n d p = IsSum plain n d p
 
 -- q is Q of them: the sum of column j times 2^j
-pub record IsQ (n : ℕ) (d : ℕ → Sector) (q : Sector) : Type 0 where
-  pub good : Good q
-  pub bytes : (w b : ℕ) → w < 64 → b < 8 → byteAt w b q ≡ total n (λ j. product (power j) (byteAt w b (d j)))
+abbrev pub IsQ : ℕ → (ℕ → Sector) → Sector → Type 0
+IsQ n d q = IsSum raised n d q
 
 -- ---- what the code does with whole words
 

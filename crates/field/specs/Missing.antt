@@ -3,7 +3,7 @@
 use mathlib.Core.List.{List}
 use mathlib.Core.Logic.{_≢_}
 use mathlib.Core.Path.{_≡_}
-use Prim.Native.Nat.{ℕ, _+_, _<_, _≤_}
+use Prim.Native.Nat.{ℕ, _<_}
 use Rattle.field.specs.Column.{Sector}
 use Rattle.field.specs.Stripe.{column, Codeword, Lies}
 use Rattle.field.specs.declared.missing.Missing.{Missing}

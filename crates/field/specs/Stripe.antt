@@ -4,7 +4,7 @@ use mathlib.Core.Bool.{cond}
 use mathlib.Core.List.{List, [], _∷_}
 use mathlib.Core.Logic.{_≢_}
 use mathlib.Core.Path.{_≡_}
-use Prim.Native.Nat.{ℕ, zero, suc, _+_, _-_, _*_, _<_, _≤_}
+use Prim.Native.Nat.{ℕ, _+_, _-_, _*_, _<_, _≤_}
 use lib.Dec.{ltb}
 use lib.ListN.{length, getD, take, drop, replicate}
 use Rattle.field.specs.Field.{sum, product, power}
@@ -23,6 +23,7 @@ pub record Codeword (k : ℕ) (c : ℕ → Sector) : Type 0 where
 
 -- ---- a stripe in a slice of words, one column behind the other
 
+-- column i of a slice
 abbrev pub column : ℕ → List ℕ → Sector
 column i s = take 64 (drop (64 * i) s)
 

@@ -1,8 +1,8 @@
 -- A word of 64 bits is eight elements side by side, and what is done to it here is done to each of them apart.
 -- Assumes nothing.
 use mathlib.Core.Path.{_≡_}
-use Prim.Native.Nat.{ℕ, _+_, _*_, _/_, _%_, _^_, _<_}
-use lib.Bits.{bitAnd, bitXor}
+use Prim.Native.Nat.{ℕ, _*_, _/_, _%_, _^_, _<_}
+use lib.Bits.{bitAnd}
 use Rattle.field.specs.Field.{sum, double, productBy, product}
 
 -- element b of a word, the lowest first

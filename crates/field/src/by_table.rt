@@ -2,7 +2,7 @@
 // It touches nothing but the words that it is lent. Each sum of a word and each look-up is a step.
 ghost use mathlib.Core.List.{map};
 ghost use mathlib.Core.Path.{_≡_};
-ghost use Prim.Native.Nat.{ℕ, _+_, _-_, _*_, _<_, _≤_};
+ghost use Prim.Native.Nat.{_+_, _-_, _*_, _≤_};
 ghost use lib.ListN.{length};
 ghost use Rattle.field.specs.Word.{double8};
 ghost use Rattle.field.specs.Column.{add, IsP, IsQ};

@@ -2,7 +2,7 @@
 // It touches nothing but the words that it is lent. What goes over words tells its steps: each sum and each doubling of a word is one.
 ghost use mathlib.Core.List.{map};
 ghost use mathlib.Core.Path.{_≡_};
-ghost use Prim.Native.Nat.{ℕ, _+_, _-_, _*_, _<_, _≤_};
+ghost use Prim.Native.Nat.{_+_, _-_, _<_, _≤_};
 ghost use lib.ListN.{length, replicate};
 ghost use Rattle.field.specs.Field.{power, neighbour};
 ghost use Rattle.field.specs.Word.{double8, product8};

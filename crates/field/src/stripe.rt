@@ -1,7 +1,7 @@
 // A stripe of 4 to 12 columns in a slice of words, one column behind the other: column 0 is P, 1 is Q, 2 + j is data column j.
 // It touches nothing but the words that it is lent, and tells its steps: each sum and each doubling of a word is one.
 ghost use mathlib.Core.Path.{_≡_};
-ghost use Prim.Native.Nat.{ℕ, _+_, _-_, _*_, _<_, _≤_};
+ghost use Prim.Native.Nat.{_+_, _-_, _*_, _<_, _≤_};
 ghost use lib.ListN.{length};
 ghost use Rattle.field.specs.Column.{IsP, IsQ};
 ghost use Rattle.field.specs.Stripe.{column, dataOf, held, Written, Anew, Left, Restores, MendsTwo, Put};

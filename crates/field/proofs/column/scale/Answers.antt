@@ -1,4 +1,3 @@
-use mathlib.Core.Path.{refl}
 use native.Mathlib.Omega.{arith}
 use Rattle.field.specs.Word.{product8}
 use Rattle.field.proofs.Loops.{over-more, over-all}

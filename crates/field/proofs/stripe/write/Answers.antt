@@ -1,6 +1,5 @@
 use mathlib.Core.Path.{_≡_, ap, _∙_}
 use native.Mathlib.Omega.{arith}
-use Prim.Native.Nat.{_+_, _-_, _*_}
 use lib.ListN.{length}
 use Rattle.field.proofs.Slices.{written}
 use Rattle.field.proofs.stripe.write.Needs as need
