@@ -1,7 +1,7 @@
 -- Counting the disks that died in use: a death adds one at most, and where there are three apart, three are counted.
 -- Assumes nothing.
 use mathlib.Core.Path.{_≡_, refl, sym, _∙_, ap, subst}
-use mathlib.Core.Logic.{_⊎_, inl, inr, _≢_}
+use mathlib.Core.Logic.{_⊎_, inl, inr, ⊎-elim, _≢_}
 use mathlib.Core.Bool.{Bool, true, false, cond, _&&_, _||_, not}
 use Prim.Native.Nat.{ℕ, zero, suc, _+_, _<_, _≤_}
 use native.Mathlib.Omega.{arith}
@@ -131,3 +131,38 @@ pub count-none : (n : ℕ) (f : ℕ → Bool) → ((e : ℕ) → f e ≡ false) 
 unfolding count
 count-none zero f h = refl
 count-none (suc n) f h = rw (count-none n f h, h n)
+
+-- without one number at most one is less
+count-without : (n : ℕ) (f : ℕ → Bool) (a : ℕ) → count n f ≤ count n (but f a) + 1
+unfolding count
+count-without zero f a = omega arith
+count-without (suc n) f a =
+    elim (cases-eq n a) [
+      | inl e ↦ let h = count-below n f a (omega arith) in let k = at-most-one (f n) in omega arith
+      | inr e ↦ let h = count-without n f a in let b : but f a n ≡ f n = but-other f a n e in rw b (omega arith)
+    ]
+
+but-implies : (f : ℕ → Bool) (a i : ℕ) → but f a i ≡ true → (f i ≡ true) × (i ≢ a)
+but-implies f a i e =
+    elim (cases-eq i a) [
+      | inl q ↦ let z : true ≡ false = sym e ∙ (ap (but f a) q ∙ but-self f a) in absurd (subst T z tt)
+      | inr q ↦ (sym (but-other f a i q) ∙ e, q)
+    ]
+
+-- what is true of three numbers at most is true of no more than three
+pub count-three : (n : ℕ) (f : ℕ → Bool) (a b c : ℕ) → ((i : ℕ) → f i ≡ true → (i ≡ a) ⊎ ((i ≡ b) ⊎ (i ≡ c))) → count n f ≤ 3
+count-three n f a b c h =
+    let none : (i : ℕ) → but (but (but f a) b) c i ≡ false = λ i.
+    elim (cases-bool (but (but (but f a) b) c i)) [
+      | inl e ↦
+          let p = but-implies (but (but f a) b) c i e in
+          let q = but-implies (but f a) b i (p .0) in
+          let r = but-implies f a i (q .0) in
+          absurd (⊎-elim (r .1) (λ u. ⊎-elim (q .1) (p .1) u) (h i (r .0)))
+      | inr e ↦ e
+    ] in
+    let x = count-without n f a in
+    let y = count-without n (but f a) b in
+    let z = count-without n (but (but f a) b) c in
+    let w = count-none n (but (but (but f a) b) c) none in
+    omega arith

@@ -12,3 +12,4 @@ pub mod Upward
 pub mod Loads
 pub mod Stores
 pub mod Journalling
+pub mod Rewriting

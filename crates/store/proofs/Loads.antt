@@ -16,13 +16,15 @@ use Rattle.field.specs.declared.missing.Missing.the-variants.{Nothing, One, Two
 use Rattle.field.proofs.Slices.{written}
 use Rattle.field.proofs.Missings.{known-here, known-missing, known-weaker}
 use Rattle.layout.specs.Places.{place, index}
-use Rattle.layout.specs.Members.{Roster, marked}
+use Rattle.layout.specs.Members.{Roster, marked, withMark}
 use Rattle.layout.specs.declared.members.Marks.{Marks}
 use Rattle.layout.proofs.Turning.{place-within, index-place, place-apart}
+use Rattle.layout.proofs.Marking.{marked-more}
 use Rattle.store.specs.Event.{Event}
 use Rattle.store.specs.Shelf.{Shelf}
 use Rattle.store.specs.Durable.{Nowhere, Went, Heard, Shows}
-use Rattle.store.specs.Stripes.{Serving, Shown, diskOf, Answered, Each, Loading, Loaded, Read}
+use Rattle.store.specs.Stripes.{Serving, Shown, diskOf, Answered, Each, Loading, Loaded, Read, learned}
+use Rattle.store.specs.Writes.{MarksTrue}
 use Rattle.store.proofs.Truths.{true-T}
 use Rattle.store.proofs.Counting.{no-third}
 use Rattle.store.proofs.Laws.{went-none, went-then, went-longer, shows-went, dead-stays}
@@ -129,15 +131,34 @@ shown-went : {n : ℕ} {x y : Shelf} {es fs : List Event} → Went n Nowhere x e
 shown-went w ds s r c h p b = shows-went w (getD ds p 0) s (c (index p r)) (λ _ v. v) (h p b)
 
 pub read-one : {n : ℕ} {ds : List ℕ} {s r i : ℕ} {b : List ℕ} {x y : Shelf} {es fs : List Event} (lives : Bool) → Roster ds → i < length ds → lives ≡ true → Went n Nowhere x es y fs → Answered (diskOf ds r i) s b lives x y →
-    Read ds s r i b x y
+    Read Nothing ds s r i b x y
 read-one {ds = ds} {s} {r} {i} lives few h o w a =
     record {
       lit = a .lit;
+      dead = tt;
       column-is = λ c _ l.
           a .shows (true-T o) ∙ (w .stays (diskOf ds r i) s (λ b v. v) ∙
           (l (place i r) (place-within (length ds) i r (few .least) h) (w .deaths .falls (diskOf ds r i) (true-T (a .alive ∙ o))) ∙ ap c (index-place i r)));
     }
 
 pub read-all : {n : ℕ} {m : Missing} {ds : List ℕ} {s r i : ℕ} {b t : List ℕ} {x y z : Shelf} {es fs : List Event} (d : ℕ) (v : List ℕ) (lives : Bool) → i < length ds → b ≡ column i t → Went n Nowhere x es y fs → Answered d s v lives x y →
-    Loaded m ds s r t y z → Read ds s r i b x z
-read-all {ds = ds} {s} {r} {i} d v lives h e w a p = record { lit = λ on. p .lit (a .lit on); column-is = λ c k l. e ∙ p .whole c k (shown-went w ds s r c l) i h }
+    Loaded m ds s r t y z → Read m ds s r i b x z
+read-all {ds = ds} {s} {r} {i} d v lives h e w a p =
+    record { lit = λ on. p .lit (a .lit on); dead = p .dead; column-is = λ c k l. e ∙ p .whole c k (shown-went w ds s r c l) i h }
+
+-- ---- what is learned of the members
+
+-- one member more is known to be dead
+marks-more : (x : Shelf) (ds : List ℕ) (m : Marks) (p : ℕ) → MarksTrue x ds m → x .alive (getD ds p 0) ≡ false → MarksTrue x ds (withMark m p)
+marks-more x ds m p v d q l t = elim (marked-more m p q t) [ inl a ↦ v q l a | inr e ↦ subst (λ (z : ℕ). x .alive (getD ds z 0) ≡ false) (sym e) d ]
+
+pub marks-learned : (x : Shelf) (ds : List ℕ) (m : Marks) (missing : Missing) (r : ℕ) → MarksTrue x ds m → Each missing (λ i. (i < length ds) × (x .alive (diskOf ds r i) ≡ false)) → MarksTrue x ds (learned m missing r)
+marks-learned x ds m Nothing r v d = v
+marks-learned x ds m (One a) r v d = marks-more x ds m (place a r) v (d .1)
+marks-learned x ds m (Two a b) r v d = marks-more x ds (withMark m (place a r)) (place b r) (marks-more x ds m (place a r) v (d .0 .1)) (d .1 .1)
+
+pub marks-went : {n : ℕ} {W : (d s : ℕ) → List ℕ → Type 0} {x y : Shelf} {es fs : List Event} → Went n W x es y fs → (ds : List ℕ) (m : Marks) → MarksTrue x ds m → MarksTrue y ds m
+marks-went w ds m v p l t = dead-stays w (getD ds p 0) (v p l t)
+
+pub marks-kept : (x : Shelf) {ds es : List ℕ} {m n : Marks} → ds ≡ es → m ≡ n → MarksTrue x ds m → MarksTrue x es n
+marks-kept x {ds} {es} {m} {n} p q v = subst (λ (k : Marks). MarksTrue x es k) q (subst (λ (e : List ℕ). MarksTrue x e m) p v)

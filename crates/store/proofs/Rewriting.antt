@@ -79,10 +79,11 @@ touched-three j zero e = inl refl
 touched-three j (suc zero) e = inr (inl refl)
 touched-three j (suc (suc i)) e =
     elim (cases-eq (suc (suc i)) (2 + j)) [
-      inl q ↦ inr (inr q)
-    | inr n ↦
-        let z : getD (touching j) (suc (suc i)) false ≡ getD parityOnly (suc (suc i)) false = getD-set-other parityOnly (2 + j) (suc (suc i)) true false n in
-        absurd (subst T (sym e ∙ (z ∙ all-false 10 i)) tt) ]
+      | inl q ↦ inr (inr q)
+      | inr n ↦
+          let z : getD (touching j) (suc (suc i)) false ≡ getD parityOnly (suc (suc i)) false = getD-set-other parityOnly (2 + j) (suc (suc i)) true false n in
+          absurd (subst T (sym e ∙ (z ∙ all-false 10 i)) tt)
+    ]
 
 -- no more than three are
 pub few-touched : (n j : ℕ) → count n (chosen (touching j)) ≤ 3
@@ -97,10 +98,12 @@ instead r h c t = cond (eqb t r) h (c t)
 pub changes : (r : ℕ) (h : ℕ → List ℕ) (c : Columns) → Changes r h c (instead r h c)
 changes r h c =
     record {
-      others = λ t i n. ap (λ (f : ℕ → List ℕ). f i) (cond-false (eqb t r) h (c t) (ne-eqb t r n)); this = λ i. ap (λ (f : ℕ → List ℕ). f i) (cond-true (eqb r r) h (c r) (eq-eqb r r refl)) }
+      others = λ t i n. ap (λ (f : ℕ → List ℕ). f i) (cond-false (eqb t r) h (c t) (ne-eqb t r n));
+      this = λ i. ap (λ (f : ℕ → List ℕ). f i) (cond-true (eqb r r) h (c r) (eq-eqb r r refl));
+    }
 
 module _ (n k s r j : ℕ) (some : 64 < n) (size : s < (k - 2) * (n - 64)) (er : r ≡ stripeOf (n - 64) s) (ej : j ≡ columnOf (n - 64) s)
-  (t u words : List ℕ) (c : Columns) (coded : Coded k c) (lies : Lies k t (c r)) (put : Put k j words (held k t) (held k u)) where
+    (t u words : List ℕ) (c : Columns) (coded : Coded k c) (lies : Lies k t (c r)) (put : Put k j words (held k t) (held k u)) where
   -- what was loaded is the stripe
   was : (i : ℕ) → held k t i ≡ c r i
   was i = held-is k t (c r) (coded r) lies i
@@ -113,21 +116,24 @@ module _ (n k s r j : ℕ) (some : 64 < n) (size : s < (k - 2) * (n - 64)) (er :
       let q = stripeOf (n - 64) i in
       let p = 2 + columnOf (n - 64) i in
       elim (cases-eq q r) [
-        inl e ↦
-          let apart : p ≢ 2 + j = λ z.
-              ne (home-apart (n - 64) (omega arith) i s (e ∙ er) (ap (λ (a : ℕ). place p a) (e ∙ er) ∙ ap (λ (a : ℕ). place a (stripeOf (n - 64) s)) (z ∙ ap (λ (a : ℕ). 2 + a) ej))) in
-          ap (λ (a : ℕ). instead r (held k u) c a p) e ∙ (unchanged p (omega arith) apart ∙ ap (λ (a : ℕ). c a p) (sym e))
-      | inr o ↦ changes r (held k u) c .others q p o ]
+        | inl e ↦
+            let apart : p ≢ 2 + j = λ z.
+            ne (home-apart (n - 64) (omega arith) i s (e ∙ er) (ap (λ (a : ℕ). place p a) (e ∙ er) ∙ ap (λ (a : ℕ). place a (stripeOf (n - 64) s)) (z ∙ ap (λ (a : ℕ). 2 + a) ej))) in
+            ap (λ (a : ℕ). instead r (held k u) c a p) e ∙ (unchanged p (omega arith) apart ∙ ap (λ (a : ℕ). c a p) (sym e))
+        | inr o ↦ changes r (held k u) c .others q p o
+      ]
 
   pub rewrites : Rewrites n s words k c (instead r (held k u) c)
   rewrites =
       record {
         code = λ a. cond-both (eqb a r) (held k u) (c a) (λ (f : ℕ → List ℕ). Codeword k f) (λ _. put .codeword) (λ _. coded a);
-        this = sym (is-sector n k s r j some size er ej (instead r (held k u) c)) ∙ (changes r (held k u) c .this (2 + j) ∙ put .here); others = elsewhere }
+        this = sym (is-sector n k s r j some size er ej (instead r (held k u) c)) ∙ (changes r (held k u) c .this (2 + j) ∙ put .here);
+        others = elsewhere;
+      }
 
 -- from the load to the end
 module _ (S : Super) (n s r j : ℕ) (t u words : List ℕ) {m : Missing} {x y : Shelf} {es fs : List Event} (some : 64 < n) (size : s < (length (S .members) - 2) * (n - 64)) (er : r ≡ stripeOf (n - 64) s) (ej : j ≡ columnOf (n - 64) s)
-  (few : length (S .members) ≤ 12) (same : n ≡ x .sectors) (w : Went (length (S .members)) Nowhere x es y fs) (p : Loaded m (S .members) (64 + r) r t x y) (put : Put (length (S .members)) j words (held (length (S .members)) t) (held (length (S .members)) u)) where
+    (few : length (S .members) ≤ 12) (same : n ≡ x .sectors) (w : Went (length (S .members)) Nowhere x es y fs) (p : Loaded m (S .members) (64 + r) r t x y) (put : Put (length (S .members)) j words (held (length (S .members)) t) (held (length (S .members)) u)) where
   abbrev k : ℕ
   k = length (S .members)
 
@@ -153,7 +159,8 @@ module _ (S : Super) (n s r j : ℕ) (t u words : List ℕ) {m : Missing} {x y :
       record {
         off = q .off;
         left = λ c a b.
-          inr (next c, (subst (λ (Q : Super). Left z S c Q (next c)) stripe-is (q .left c (next c) (ready-asked w S c a) (changes r (held k u) c)), rewritten c a b)) }
+            inr (next c, (subst (λ (Q : Super). Left z S c Q (next c)) stripe-is (q .left c (next c) (ready-asked w S c a) (changes r (held k u) c)), rewritten c a b));
+      }
 
   module _ {z : Shelf} (q : Journalled S r (held k u) y z) (S′ : Super) (e : S′ ≡ journalling S r) where
     pub sound-journalled : (c : Columns) → Ready x S c → Sound z S′ (next c)
@@ -164,15 +171,22 @@ module _ (S : Super) (n s r j : ℕ) (t u words : List ℕ) {m : Missing} {x y :
         record {
           off = o .off;
           left = λ c a b.
-            inr (next c, (inr (inr (subst (λ (Q : Super). Sound v Q (next c)) (e ∙ stripe-is) (o .sound (next c) (sound-journalled c a)))), rewritten c a b)) }
+              inr (next c, (inr (inr (subst (λ (Q : Super). Sound v Q (next c)) (e ∙ stripe-is) (o .sound (next c) (sound-journalled c a)))), rewritten c a b));
+        }
 
     pub saved-place : {v : Shelf} → Placing (chosen (touching j)) S′ r (held k u) z v → Saved n s words S x v
     saved-place {v} o =
         record {
           lit = o .lit (q .lit);
-          ready = λ c a b.
-            (next c, (subst (λ (Q : Super). Ready v Q (next c)) (e ∙ stripe-is)
-              (o .ready c (next c) (sound-journalled c a) (subst (λ (Q : Super). InPlace z Q c) (sym e) (q .places c (ready-asked w S c a))) (changes r (held k u) c .this) (rest-same c a b)), rewritten c a b)) }
+          ready = λ c a b. (
+            next c,
+            (
+              subst (λ (Q : Super). Ready v Q (next c)) (e ∙ stripe-is)
+                  (o .ready c (next c) (sound-journalled c a) (subst (λ (Q : Super). InPlace z Q c) (sym e) (q .places c (ready-asked w S c a))) (changes r (held k u) c .this) (rest-same c a b)),
+              rewritten c a b,
+            ),
+          );
+        }
 
 -- the load did not come through
 pub unsaved-load : {n s : ℕ} {b : List ℕ} {S : Super} {x y : Shelf} {es fs : List Event} {m : ℕ} → Went m Nowhere x es y fs → y .on ≡ false → Unsaved n s b S x y

@@ -41,5 +41,5 @@ pub record Saved (n s : ℕ) (b : List ℕ) (S : Super) (x y : Shelf) : Type 0 w
 pub record Unsaved (n s : ℕ) (b : List ℕ) (S : Super) (x y : Shelf) : Type 0 where
   pub off : y .on ≡ false
   pub left :
-    (c : Columns) → Ready x S c → Coded (length (S .members)) c →
-    Sound y S c ⊎ ((c′ : Columns) × (Left y S c (journalling S (stripeOf (n - 64) s)) c′ × Rewrites n s b (length (S .members)) c c′))
+      (c : Columns) → Ready x S c → Coded (length (S .members)) c →
+      Sound y S c ⊎ ((c′ : Columns) × (Left y S c (journalling S (stripeOf (n - 64) s)) c′ × Rewrites n s b (length (S .members)) c c′))

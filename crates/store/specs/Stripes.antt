@@ -11,7 +11,7 @@ use Rattle.field.specs.Missing.{Known}
 use Rattle.field.specs.declared.missing.Missing.{Missing}
 use Rattle.field.specs.declared.missing.Missing.the-variants.{Nothing, One, Two}
 use Rattle.layout.specs.Places.{place, index}
-use Rattle.layout.specs.Members.{Roster, marked}
+use Rattle.layout.specs.Members.{Roster, marked, withMark}
 use Rattle.layout.specs.declared.members.Marks.{Marks}
 use Rattle.store.specs.Event.{Event}
 use Rattle.store.specs.Shelf.{Shelf, count}
@@ -63,9 +63,16 @@ pub record Loaded (m : Missing) (ds : List ℕ) (s r : ℕ) (stripe : List ℕ) 
   pub whole : (c : ℕ → List ℕ) → Codeword (length ds) c → Shown x ds s r c → Lies (length ds) stripe c
 
 -- column i of whatever codeword the members show
-pub record Read (ds : List ℕ) (s r i : ℕ) (words : List ℕ) (x y : Shelf) : Type 0 where
+pub record Read (m : Missing) (ds : List ℕ) (s r i : ℕ) (words : List ℕ) (x y : Shelf) : Type 0 where
   pub lit : x .on ≡ true → y .on ≡ true
+  pub dead : Each m (λ i. (i < length ds) × (y .alive (diskOf ds r i) ≡ false))
   pub column-is : (c : ℕ → List ℕ) → Codeword (length ds) c → Shown x ds s r c → words ≡ c i
+
+-- which places are known to be dead once these columns of stripe r were missing
+abbrev pub learned : Marks → Missing → ℕ → Marks
+learned m Nothing r = m
+learned m (One a) r = withMark m (place a r)
+learned m (Two a b) r = withMark (withMark m (place a r)) (place b r)
 
 -- a selected column of the stripe, to its disk at s, and nothing else
 abbrev pub Spread : (ℕ → Bool) → List ℕ → ℕ → ℕ → (ℕ → List ℕ) → (d s : ℕ) → List ℕ → Type 0

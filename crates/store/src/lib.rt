@@ -21,6 +21,7 @@ mod answers;
 mod commit;
 mod journal;
 mod recovery;
+mod sectors;
 mod selection;
 mod stripe;
 mod write;

@@ -22,7 +22,14 @@ use layout::Superblock;
 use layout::locate;
 
 // Sector s of the store, into `into`; `columns` is room for a stripe.
-pub fn read<D: Disks>(d: &mut D, b: &mut Superblock, n: u64, s: u64, into: &mut [u64], columns: &mut [u64]) -> Result<(), Gone>
+pub fn read<D: Disks>(
+    d: &mut D,
+    b: &mut Superblock,
+    n: u64,
+    s: u64,
+    into: &mut [u64],
+    columns: &mut [u64],
+) -> Result<(), Gone>
     requires left { ⌜ 1 + length (listed (now b .members .count) (now b .members .disks)) ≤ shelf (now d) .left ⌝ }
     requires size { ⌜ n ≡ shelf (now d) .sectors ⌝ ∗ ⌜ s < (length (listed (now b .members .count) (now b .members .disks)) - 2) * (n - 64) ⌝ }
     requires ready { ⌜ ((c : Columns) × Ready (shelf (now d)) (says (now b)) c) ⌝ }
@@ -40,7 +47,14 @@ pub fn read<D: Disks>(d: &mut D, b: &mut Superblock, n: u64, s: u64, into: &mut 
 }
 
 // These words for sector s of the store; the superblock is the next one then.
-pub fn write<D: Disks>(d: &mut D, b: &mut Superblock, n: u64, s: u64, words: &[u64], columns: &mut [u64]) -> Result<(), Gone>
+pub fn write<D: Disks>(
+    d: &mut D,
+    b: &mut Superblock,
+    n: u64,
+    s: u64,
+    words: &[u64],
+    columns: &mut [u64],
+) -> Result<(), Gone>
     requires left { ⌜ 2 * length (listed (now b .members .count) (now b .members .disks)) + 2 * extra (now b .rebuild) + 8 ≤ shelf (now d) .left ⌝ }
     requires size { ⌜ n ≡ shelf (now d) .sectors ⌝ ∗ ⌜ s < (length (listed (now b .members .count) (now b .members .disks)) - 2) * (n - 64) ⌝ }
     requires ready { ⌜ ((c : Columns) × (Ready (shelf (now d)) (says (now b)) c × Coded (length (listed (now b .members .count) (now b .members .disks))) c)) ⌝ }

@@ -13,7 +13,7 @@ ghost use Rattle.layout.specs.Super.{says, Proper, Joins};
 ghost use Rattle.store.specs.Shelf.{count};
 ghost use Rattle.store.specs.Durable.{Went, Nowhere, Here, Shows, Employed};
 ghost use Rattle.store.specs.Keeping.{Holds};
-ghost use Rattle.store.specs.Stripes.{Serving, Answered, Loaded, Read, Spread, Storing, Held, Stored, FillsWith, extra, chosen};
+ghost use Rattle.store.specs.Stripes.{Serving, Answered, Loaded, Read, learned, Spread, Storing, Held, Stored, FillsWith, extra, chosen};
 use crate::Disks;
 use crate::Gone;
 use crate::answers::read_sector;
@@ -76,7 +76,7 @@ pub fn load<D: Disks>(
     Ok(missing)
 }
 
-// Column i of stripe r alone: from its own member by one ask, or, if that is dead, from the others.
+// Column i of stripe r alone: from its own member by one ask, or, if that is dead, from the others; says which were missing.
 pub fn read_column<D: Disks>(
     d: &mut D,
     members: &Members,
@@ -85,20 +85,38 @@ pub fn read_column<D: Disks>(
     i: usize,
     into: &mut [u64],
     stripe: &mut [u64],
-) -> Result<(), Gone>
+) -> Result<Missing, Gone>
     requires left { ⌜ 1 + length (listed (now members .count) (now members .disks)) ≤ shelf (now d) .left ⌝ }
     requires size { ⌜ s < shelf (now d) .sectors ⌝ ∗ ⌜ i < length (listed (now members .count) (now members .disks)) ⌝ }
     requires serving { ⌜ Serving (shelf (now d)) (listed (now members .count) (now members .disks)) (now members .dead) ⌝ }
     requires lent { ⌜ length (now stripe) ≡ 64 * length (listed (now members .count) (now members .disks)) ⌝ ∗ ⌜ length (now into) ≡ 64 ⌝ }
     ensures went { λ _. ⌜ Went (1 + length (listed (now (members .entry) .count) (now (members .entry) .disks))) Nowhere (shelf (now (d .entry))) (seen (now (d .entry))) (shelf (now (d .exit))) (seen (now (d .exit))) ⌝ }
-    ensures how { λ v. ⌜ Cases v (λ _. Read (listed (now (members .entry) .count) (now (members .entry) .disks)) s r i (now (into .exit)) (shelf (now (d .entry))) (shelf (now (d .exit)))) (λ _. shelf (now (d .exit)) .on ≡ false) ⌝ }
+    ensures how { λ v. ⌜ Cases v (λ missing. Read missing (listed (now (members .entry) .count) (now (members .entry) .disks)) s r i (now (into .exit)) (shelf (now (d .entry))) (shelf (now (d .exit)))) (λ _. shelf (now (d .exit)) .on ≡ false) ⌝ }
 {
     let p = place_of(i, r);
-    if !fetch(d, members, p, s, into)? {
-        let _ = load(d, members, s, r, stripe)?;
-        into.copy_from_slice(&stripe[64 * i..64 * i + 64]);
+    if fetch(d, members, p, s, into)? {
+        return Ok(Missing::Nothing);
     }
-    Ok(())
+    let missing = load(d, members, s, r, stripe)?;
+    into.copy_from_slice(&stripe[64 * i..64 * i + 64]);
+    Ok(missing)
+}
+
+// Members whose columns of stripe r were missing are known to be dead from now on.
+pub fn learn(members: &mut Members, missing: Missing, r: u64)
+    ensures list { λ _. ⌜ listed (now (members .exit) .count) (now (members .exit) .disks) ≡ listed (now (members .entry) .count) (now (members .entry) .disks) ⌝ }
+    ensures marks { λ _. ⌜ now (members .exit) .dead ≡ learned (now (members .entry) .dead) missing r ⌝ }
+{
+    match missing {
+        Missing::Nothing => {}
+        Missing::One(a) => {
+            members.mark(place_of(a, r));
+        }
+        Missing::Two(a, b) => {
+            members.mark(place_of(a, r));
+            members.mark(place_of(b, r));
+        }
+    }
 }
 
 // Words to sector s of the member at place p; one that is known to be dead is not asked.

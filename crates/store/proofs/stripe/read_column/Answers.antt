@@ -35,29 +35,29 @@ load-requires g c κs =
       lent = c .pre .lent .0;
     }
 
-pub returns-in-Break-load : need.returns-in-Break-load
-returns-in-Break-load g c =
+pub returns-in-Break-missing : need.returns-in-Break-missing
+returns-in-Break-missing g c =
     record {
       went = went-then (c .fetch .ensures .went) (c .load .ensures .went);
-      how = cases-from-err (c .from-residual-in-Break-load .result) _ _ (c .from-residual-in-Break-load .ensures .0) (λ _. c .in-Break-load .ensures tt .how);
+      how = cases-from-err (c .from-residual-in-Break-missing .result) _ _ (c .from-residual-in-Break-missing .ensures .0) (λ _. c .in-Break-missing .ensures tt .how);
     }
 
-pub returns-in-Continue-load : need.returns-in-Continue-load
-returns-in-Continue-load g c =
+pub returns : need.returns
+returns g c =
     let t = c .load .last .stripe in
     let m : 64 * c .args .i + 64 - 64 * c .args .i ≡ 64 = omega arith in
     let e : c .copy-from-slice .last .self ≡ column (c .args .i) (c .load .last .stripe) = c .copy-from-slice .ensures .after ∙ ap (λ (z : ℕ). take z (drop (64 * c .args .i) t)) m in
     record {
       went = went-then (c .fetch .ensures .went) (c .load .ensures .went);
-      how = read-all _ _ _ (c .pre .size .1) e (c .fetch .ensures .went) (c .in-Continue-fetch .ensures tt .how) (c .in-Continue-load .ensures tt .how);
+      how = read-all _ _ _ (c .pre .size .1) e (c .fetch .ensures .went) (c .in-Continue-fetch .ensures tt .how) (c .in-Continue-missing .ensures tt .how);
     }
 
-pub returns-else-not-branch : need.returns-else-not-branch
-returns-else-not-branch g c =
+pub returns-then-branch : need.returns-then-branch
+returns-then-branch g c =
     let ds = listed (c .args .members .now .count) (c .args .members .now .disks) in
     record {
       went = went-longer (omega arith) (c .fetch .ensures .went);
-      how = read-one (c .in-Continue-fetch .field-0) (c .pre .serving .roster) (c .pre .size .1) (c .if-not-branch .left) (c .fetch .ensures .went)
+      how = read-one (c .in-Continue-fetch .field-0) (c .pre .serving .roster) (c .pre .size .1) (c .if-branch .taken) (c .fetch .ensures .went)
           (subst (λ (p : ℕ). Answered (getD ds p 0) (c .args .s) (c .fetch .last .into) (c .in-Continue-fetch .field-0) (g .D·Disks .shelf (c .args .d .now)) (g .D·Disks .shelf (c .fetch .last .d))) (c .place-of-p .ensures)
           (c .in-Continue-fetch .ensures tt .how));
     }
