@@ -9,6 +9,7 @@ pub mod Heads
 pub mod Choosing
 pub mod Carried
 pub mod Upward
+pub mod Beginning
 pub mod Loads
 pub mod Stores
 pub mod Journalling

@@ -15,6 +15,7 @@ ghost use Rattle.store.specs.Event.{Event, Told, Turned, Cut};
 ghost use Rattle.store.specs.Shelf.{Shelf, MayAsk, MayWrite, Reading, Writing, Syncing, Back, AtStart, allowed, takesIn, toldOf};
 ghost use Rattle.store.specs.Store.{Explained};
 ghost use Rattle.store.specs.Examples.{FirstAnswers};
+ghost use Rattle.store.specs.Recovers.{Begins};
 ghost use Rattle.store.specs.Promise.{can, said, OnePlace, NeverSmaller, NothingMadeUp, CoreBuilt};
 
 mod answers;
@@ -150,6 +151,13 @@ pub fn never_smaller() -> u8
 // Whatever a sector may hold is noughts, or was asked to be written there.
 pub fn nothing_made_up() -> u8
     ensures { λ _. ⌜ NothingMadeUp ⌝ }
+{
+    0
+}
+
+// A blank shelf is a store's: nothing needs to be done to it before it comes up for the first time.
+pub fn blank_shelf() -> u8
+    ensures { λ _. ⌜ Begins ⌝ }
 {
     0
 }
