@@ -14,3 +14,9 @@ pub mod Loads
 pub mod Stores
 pub mod Journalling
 pub mod Rewriting
+pub mod Histories
+pub mod Opening
+pub mod Asking
+pub mod Turning
+pub mod Performing
+pub mod Steps
