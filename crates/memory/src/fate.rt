@@ -9,7 +9,9 @@ ghost use Prim.Native.Nat.{ℕ, _+_, _<_, _≤_};
 ghost use lib.ListN.{length, getD};
 ghost use lib.Dec.{T};
 ghost use Rattle.store.specs.Shelf.{Dies as Perish, count};
+ghost use Rattle.std.specs.Options.{Cases as BySome};
 ghost use Rattle.memory.specs.Held.{shelfOf};
+ghost use Rattle.memory.specs.Plans.{dueAt, Planned, Comes, NotYet};
 ghost use Rattle.memory.specs.Words.{seenOf};
 ghost use Rattle.memory.specs.Went.{Went, Death, Spared};
 use crate::Cell;
@@ -31,6 +33,9 @@ pub struct Due {
     at: u64,
     fate: Fate,
 }
+
+// Of the disks in use, so many may have died in use.
+const MOST_LOST: usize = 2;
 
 // How many deaths and cuts can be planned at once.
 pub const PLANS: usize = 32;
@@ -73,7 +78,10 @@ impl Plan {
 }
 
 // Plans something for the n-th thing asked from now on. False where the table is full.
-pub fn schedule(plan: &mut Plan, n: u64, fate: Fate) -> bool {
+pub fn schedule(plan: &mut Plan, n: u64, fate: Fate) -> bool
+    ensures planned { λ r. ⌜ (T r → Planned (now (plan .entry)) n fate (now (plan .exit))) ⌝ }
+    ensures full { λ r. ⌜ (r ≡ false → (now (plan .exit) ≡ now (plan .entry)) × ((i : ℕ) → i < 32 → dueAt (now (plan .entry)) i .fate ≡ Fate.Nothing → ⊥)) ⌝ }
+{
     for i in 0..PLANS {
         if let Fate::Nothing = plan.due[i].fate {
             let at = plan.asks.saturating_add(n);
@@ -87,6 +95,7 @@ pub fn schedule(plan: &mut Plan, n: u64, fate: Fate) -> bool {
 // The death that is planned at place i, if it is due: it is planned no more.
 fn death_due(plan: &mut Plan, i: usize) -> Option<u32>
     requires { ⌜ i < 32 ⌝ }
+    ensures { λ r. ⌜ BySome r ((now (plan .exit) ≡ now (plan .entry)) × ((d : ℕ) → NotYet (now (plan .entry)) i (Fate.Dies d))) (λ d. Comes (now (plan .entry)) i (Fate.Dies d) (now (plan .exit))) ⌝ }
 {
     if plan.due[i].at <= plan.asks {
         if let Fate::Dies(d) = plan.due[i].fate {
@@ -97,14 +106,27 @@ fn death_due(plan: &mut Plan, i: usize) -> Option<u32>
     None
 }
 
+// What the cut that is planned at place i chooses by, if it is due: it is planned no more.
+fn cut_at(plan: &mut Plan, i: usize) -> Option<u64>
+    requires { ⌜ i < 32 ⌝ }
+    ensures { λ r. ⌜ BySome r ((now (plan .exit) ≡ now (plan .entry)) × ((seed : ℕ) → NotYet (now (plan .entry)) i (Fate.Cut seed))) (λ seed. Comes (now (plan .entry)) i (Fate.Cut seed) (now (plan .exit))) ⌝ }
+{
+    if plan.due[i].at <= plan.asks {
+        if let Fate::Cut(seed) = plan.due[i].fate {
+            plan.due[i].fate = Fate::Nothing;
+            return Some(seed);
+        }
+    }
+    None
+}
+
 // What the first cut that is due chooses by: it is planned no more.
-fn cut_due(plan: &mut Plan) -> Option<u64> {
+fn cut_due(plan: &mut Plan) -> Option<u64>
+    ensures { λ r. ⌜ BySome r ((now (plan .exit) ≡ now (plan .entry)) × ((i seed : ℕ) → i < 32 → NotYet (now (plan .entry)) i (Fate.Cut seed))) (λ seed. (i : ℕ) × (i < 32) × Comes (now (plan .entry)) i (Fate.Cut seed) (now (plan .exit))) ⌝ }
+{
     for i in 0..PLANS {
-        if plan.due[i].at <= plan.asks {
-            if let Fate::Cut(seed) = plan.due[i].fate {
-                plan.due[i].fate = Fate::Nothing;
-                return Some(seed);
-            }
+        if let Some(seed) = cut_at(plan, i) {
+            return Some(seed);
         }
     }
     None
@@ -151,7 +173,7 @@ pub fn die(log: &mut [u64], state: &mut State, disk: u32) -> bool
     if !state.alive[d] {
         return false;
     }
-    if state.uses[d] && weakness(state) > 1 {
+    if state.uses[d] && weakness(state) >= MOST_LOST {
         return false;
     }
     if !note_death(log, state, disk) {

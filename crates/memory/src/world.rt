@@ -2,7 +2,9 @@
 //
 // What goes on is done by the other modules on parts of the memory; here the parts are lent to them and put back.
 ghost use mathlib.Core.Path.{_≡_};
-ghost use Prim.Native.Nat.{ℕ, _<_};
+ghost use mathlib.Core.Bool.{false};
+ghost use Prim.Native.Nat.{ℕ, _+_, _<_, _≤_};
+ghost use lib.Dec.{T};
 ghost use lib.ListN.{length, getD};
 ghost use denote.Ref.{now as held};
 ghost use Rattle.memory.specs.Held.{shelfOf};
@@ -128,7 +130,9 @@ pub impl<'a> Disks for Memory<'a> as MemoryDisks {
 }
 
 pub impl<'a> World for Memory<'a> as MemoryWorld {
-    fn more(&self) -> bool {
+    fn more(&self) -> bool
+        ensures { λ r. ⌜ (T r → now (self .entry) .state .noted + 1024 ≤ length (held (now (self .entry) .log))) ⌝ ∗ ⌜ (r ≡ false → length (held (now (self .entry) .log)) < now (self .entry) .state .noted + 1024) ⌝ }
+    {
         self.log.len() >= ROOM && self.state.noted <= self.log.len() - ROOM
     }
 
