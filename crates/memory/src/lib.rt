@@ -19,7 +19,7 @@ mod world;
 ghost use mathlib.Core.Path.{_≡_};
 ghost use mathlib.Core.Bool.{false};
 ghost use mathlib.Core.List.{[]};
-ghost use Prim.Native.Nat.{_+_, _≤_};
+ghost use Prim.Native.Nat.{_+_, _<_, _≤_};
 ghost use lib.Dec.{T};
 ghost use lib.ListN.{length};
 ghost use denote.Ref.{now as held};
@@ -125,6 +125,14 @@ impl Memory<'_> {
         clear(self.cells);
         self.state = State::first();
         self.plan = Plan::empty();
+    }
+
+    // Is the disk in use?
+    pub fn in_use(&self, d: u32) -> bool
+        requires { ⌜ d < 16 ⌝ }
+        ensures { λ r. ⌜ r ≡ shelfOf (held (now (self .entry) .cells)) (held (now (self .entry) .log)) (now (self .entry) .state) .uses d ⌝ }
+    {
+        self.state.uses[d as usize]
     }
 
     // A disk dies at once, if it may and that can be noted.
