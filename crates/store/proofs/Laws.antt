@@ -97,7 +97,7 @@ steady-same {x} {y} e s =
 pub employed-same : {x y : Shelf} → SameDisks x y → (d : ℕ) → Employed x d → Employed y d
 employed-same e d v = record { there = v .there; used = subst T (sym (e .1 d .1)) (v .used); owed = λ z. subst T (sym (e .1 d .2)) (v .owed (sym (e .1 d .0) ∙ z)) }
 
-deaths-same : {x y : Shelf} (es : List Event) → SameDisks x y → Deaths x es y es
+pub deaths-same : {x y : Shelf} (es : List Event) → SameDisks x y → Deaths x es y es
 unfolding fell
 deaths-same es e =
     record {

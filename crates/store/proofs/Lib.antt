@@ -9,7 +9,14 @@ pub mod Heads
 pub mod Choosing
 pub mod Carried
 pub mod Upward
+pub mod Beginning
 pub mod Loads
 pub mod Stores
 pub mod Journalling
 pub mod Rewriting
+pub mod Histories
+pub mod Opening
+pub mod Asking
+pub mod Turning
+pub mod Performing
+pub mod Steps

@@ -8,9 +8,11 @@ use Prim.Native.Nat.{ℕ, _+_, _<_, _≤_}
 use lib.Dec.{T, leb}
 use lib.ListN.{length, getD}
 use Rattle.std.specs.declared.option.Option.the-variants.{Some}
-use Rattle.layout.specs.Super.{Super, superOf}
+use Rattle.field.specs.Column.{noughts}
+use Rattle.field.specs.Stripe.{Codeword}
+use Rattle.layout.specs.Super.{Super, superOf, blank}
 use Rattle.store.specs.Event.{Event}
-use Rattle.store.specs.Shelf.{Shelf}
+use Rattle.store.specs.Shelf.{Shelf, AtStart}
 use Rattle.store.specs.Durable.{Shows, Settled, Nowhere, Went}
 use Rattle.store.specs.Keeping.{Columns, slot, Holds, Sound, Torn, Ready, Left}
 
@@ -80,3 +82,12 @@ pub record Up (S : Super) (x y : Shelf) : Type 0 where
 pub record Down (x y : Shelf) : Type 0 where
   pub off : y .on ≡ false
   pub left : (S : Super) (c : Columns) (S′ : Super) (c′ : Columns) → Torn x S c S′ c′ → Left y S c S′ c′
+
+-- every column is noughts
+abbrev pub empty : Columns
+empty r i = noughts
+
+-- A blank shelf is a store: the blank superblock is in force, every column is noughts and in its place, and that is a codeword for any number of members.
+pub record Begins : Type 0 where
+  pub ready : (x : Shelf) → AtStart x → Ready x blank empty
+  pub coded : (k r : ℕ) → Codeword k (empty r)

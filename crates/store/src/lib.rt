@@ -7,24 +7,32 @@
 ghost use mathlib.Core.Path.{_≡_};
 ghost use mathlib.Core.Bool.{Bool, true, false};
 ghost use mathlib.Core.List.{List, [], _∷_};
-ghost use Prim.Native.Nat.{ℕ, _+_, _*_, _<_, _≤_};
+ghost use Prim.Native.Nat.{ℕ, _+_, _*_, _^_, _<_, _≤_};
 ghost use lib.ListN.{length};
 ghost use lib.Dec.{T};
 ghost use Rattle.std.specs.Results.{isOk};
 ghost use Rattle.store.specs.Event.{Event, Told, Turned, Cut};
 ghost use Rattle.store.specs.Shelf.{Shelf, MayAsk, MayWrite, Reading, Writing, Syncing, Back, AtStart, allowed, takesIn, toldOf};
 ghost use Rattle.store.specs.Store.{Explained};
+ghost use Rattle.store.specs.Between.{ticks, Serving, Recoverable, Lost, Opened, AfterTurn, Stopped, answered};
 ghost use Rattle.store.specs.Examples.{FirstAnswers};
+ghost use Rattle.store.specs.Recovers.{Begins};
 ghost use Rattle.store.specs.Promise.{can, said, OnePlace, NeverSmaller, NothingMadeUp, CoreBuilt};
 
 mod answers;
 mod commit;
 mod journal;
 mod recovery;
+mod requests;
 mod sectors;
 mod selection;
 mod stripe;
+mod tags;
 mod write;
+
+use layout::Superblock;
+use recovery::come_up;
+use tags::Tags;
 
 // What a disk answers. Dead: it has died, for ever. Dark: the power has gone, and every disk answers so from then on.
 #[derive(Clone, Copy)]
@@ -120,10 +128,158 @@ pub struct Ended {
     pub reply: Reply,
 }
 
+// What the store keeps in a value, beside the room that it is lent: the size of the disks, the superblock in force, and what is asked.
+#[derive(Drop)]
+pub struct Store {
+    sectors: u64,
+    superblock: Superblock,
+    tags: Tags,
+}
+
+// The store comes up: what was kept is found, and nothing is asked yet. It may be cut here too, as often as it likes.
+pub fn open<D: Disks>(d: &mut D, room: &mut [u64]) -> Result<Store, Gone>
+    requires soon { ⌜ 65536 ≤ shelf (now d) .left ⌝ }
+    requires lent { ⌜ length (now room) ≡ 65536 ⌝ }
+    requires back { ⌜ Recoverable (shelf (now d)) (seen (now d)) ⌝ }
+    ensures only { λ r. ⌜ (isOk r ≡ false → shelf (now (d .exit)) .on ≡ false) ⌝ }
+    ensures opened { λ r. ⌜ Opened r (now (room .exit)) (shelf (now (d .exit))) (seen (now (d .exit))) ⌝ }
+    ensures ticked { λ _. ⌜ ticks (seen (now (d .exit))) ≡ ticks (seen (now (d .entry))) ⌝ }
+    ensures spent { λ _. ⌜ shelf (now (d .entry)) .left ≤ shelf (now (d .exit)) .left + 46 ⌝ }
+{
+    let mut best = [0u64; 64];
+    let superblock = come_up(d, &mut best, &mut room[0..64])?;
+    Ok(Store {
+        sectors: d.sectors(),
+        superblock,
+        tags: Tags::new(),
+    })
+}
+
+impl Store {
+    // Something is asked under a tag: 0, or why it is turned away. The disks aren't asked, and what is turned away changes nothing.
+    pub fn ask(&mut self, room: &mut [u64], tag: u32, a: Ask, words: &[u64]) -> u32
+        requires lent { ⌜ length (now room) ≡ 65536 ⌝ ∗ ⌜ length (now words) ≡ 64 ⌝ }
+        requires held { ⌜ ((x : Shelf) × ((es : List Event) × Serving (now self) (now room) x es)) ⌝ }
+        ensures goes { λ r. ⌜ ((x : Shelf) (es : List Event) → Serving (now (self .entry)) (now (room .entry)) x es → Serving (now (self .exit)) (now (room .exit)) (answered r a x) (said r tag a (now (words .entry)) ∷ es)) ⌝ }
+        ensures kept { λ r. ⌜ (0 < r → now (self .exit) ≡ now (self .entry)) ⌝ ∗ ⌜ (0 < r → now (room .exit) ≡ now (room .entry)) ⌝ }
+    {
+        let why = self.refusal(tag, a);
+        if why == 0 {
+            let at = 64 * tag as usize;
+            room[at..at + 64].copy_from_slice(words);
+            self.tags.note(tag, a);
+        }
+        why
+    }
+
+    // A turn, in which one that waits is done and told; what a read has read stands in `words`.
+    pub fn turn<D: Disks>(
+        &mut self,
+        d: &mut D,
+        room: &mut [u64],
+        words: &mut [u64],
+    ) -> Result<Option<Ended>, Gone>
+        requires soon { ⌜ 256 ≤ shelf (now d) .left ⌝ }
+        requires lent { ⌜ length (now room) ≡ 65536 ⌝ ∗ ⌜ length (now words) ≡ 64 ⌝ }
+        requires held { ⌜ Serving (now self) (now room) (shelf (now d)) (seen (now d)) ⌝ }
+        requires early { ⌜ ticks (seen (now d)) < 2 ^ 62 ⌝ }
+        ensures only { λ r. ⌜ (isOk r ≡ false → shelf (now (d .exit)) .on ≡ false) ⌝ }
+        ensures after { λ r. ⌜ AfterTurn r (now (words .exit)) (now (self .exit)) (now (room .exit)) (shelf (now (d .exit))) (seen (now (d .exit))) ⌝ }
+        ensures ticked { λ _. ⌜ ticks (seen (now (d .exit))) ≡ ticks (seen (now (d .entry))) ⌝ }
+    {
+        let Some((tag, ask)) = self.tags.due() else {
+            return Ok(None);
+        };
+        let reply = self.perform(d, room, tag, ask, words)?;
+        self.tags.close(tag);
+        Ok(Some(Ended { tag, ask, reply }))
+    }
+}
+
+// What is large is in the room.
+pub fn store_is_small() -> bool
+    ensures { λ r. ⌜ T r ⌝ }
+{
+    std::mem::size_of::<Store>() <= 4096
+}
+
 // Why serving ends: the power has gone, or all is over.
 pub enum Stop {
     Dark,
     Over,
+}
+
+// As long as the power stays, and turns are left.
+pub fn serve<W: Disks + World>(
+    w: &mut W,
+    s: &mut Store,
+    room: &mut [u64],
+    words: &mut [u64],
+    turns: u64,
+) -> Stop
+    requires lent { ⌜ length (now words) ≡ 64 ⌝ }
+    requires roomy { ⌜ length (now room) ≡ 65536 ⌝ }
+    requires held { ⌜ Serving (now s) (now room) (shelf (now w)) (seen (now w)) ⌝ }
+    requires early { ⌜ ticks (seen (now w)) + turns < 2 ^ 62 ⌝ }
+    ensures stops { λ r. ⌜ Stopped r (shelf (now (w .exit))) (seen (now (w .exit))) ⌝ }
+    ensures ticked { λ r. ⌜ (r ≡ Stop.Dark → ticks (seen (now (w .exit))) ≤ ticks (seen (now (w .entry))) + turns) ⌝ }
+{
+    let mut t: u64 = 0;
+    while t < turns && w.more() {
+        t += 1;
+        if let Some((tag, a)) = w.next(words) {
+            let why = s.ask(room, tag, a, words);
+            if !w.said(tag, a, words, why) {
+                return Stop::Over;
+            }
+        }
+        w.allow(256);
+        match s.turn(w, room, words) {
+            Err(Gone) => {
+                return Stop::Dark;
+            }
+            Ok(e) => {
+                if !w.turned() {
+                    return Stop::Over;
+                }
+                if let Some(Ended { tag, ask, reply }) = e {
+                    if !w.told(tag, ask, reply, words) {
+                        return Stop::Over;
+                    }
+                }
+            }
+        }
+    }
+    Stop::Over
+}
+
+// THE MAIN PROMISE. Whichever two disks die, whatever is asked, and wherever the power goes.
+pub fn years<W: Disks + World>(
+    w: &mut W,
+    room: &mut [u64],
+    words: &mut [u64],
+    lives: u64,
+    turns: u64,
+)
+    requires starts { ⌜ AtStart (shelf (now w)) ⌝ }
+    requires unseen { ⌜ seen (now w) ≡ [] ⌝ }
+    requires lent { ⌜ length (now room) ≡ 65536 ⌝ ∗ ⌜ length (now words) ≡ 64 ⌝ }
+    requires few { ⌜ lives < 1048576 ⌝ ∗ ⌜ turns < 1099511627776 ⌝ }
+{
+    let mut n: u64 = 0;
+    while n < lives && w.more() {
+        n += 1;
+        w.allow(65536);
+        if let Ok(mut s) = open(w, room) {
+            match serve(w, &mut s, room, words, turns) {
+                Stop::Dark => {}
+                Stop::Over => {
+                    return;
+                }
+            }
+        }
+        w.back(room);
+    }
 }
 
 // Reading, writing, flushing and asking the size are never taken out of what is built.
@@ -150,6 +306,13 @@ pub fn never_smaller() -> u8
 // Whatever a sector may hold is noughts, or was asked to be written there.
 pub fn nothing_made_up() -> u8
     ensures { λ _. ⌜ NothingMadeUp ⌝ }
+{
+    0
+}
+
+// A blank shelf is a store's: nothing needs to be done to it before it comes up for the first time.
+pub fn blank_shelf() -> u8
+    ensures { λ _. ⌜ Begins ⌝ }
 {
     0
 }
