@@ -45,7 +45,7 @@ pub const PLANS: usize = 32;
 #[derive(Clone, Copy)]
 pub struct Plan {
     pub asks: u64,
-    pub due: [Due; 32],
+    pub due: [Due; PLANS],
     pub spared: u64,
     pub seed: u64,
     pub step: usize,
@@ -68,7 +68,7 @@ impl Plan {
             due: [Due {
                 at: 0,
                 fate: Fate::Nothing,
-            }; 32],
+            }; PLANS],
             spared: 0,
             seed: 0,
             step: 0,
