@@ -1,11 +1,14 @@
 -- What is planned: deaths and cuts, by the number of the thing asked that they come with.
 use mathlib.Core.Path.{_≡_}
+use mathlib.Core.Logic.{_⊎_}
 use Prim.Native.Nat.{ℕ, _+_, _-_, _^_, _<_, _≤_, min}
 use lib.ListN.{getD, set}
 use Rattle.memory.specs.declared.fate.Due.{Due}
 use Rattle.memory.specs.declared.fate.Plan.{Plan}
 use Rattle.memory.specs.declared.fate.Fate.{Fate}
-use Rattle.memory.specs.declared.fate.Fate.the-variants.{Nothing}
+use Rattle.memory.specs.declared.fate.Fate.the-variants.{Nothing, Dies, Cut}
+use Rattle.memory.specs.declared.fate.Power.{Power}
+use Rattle.memory.specs.declared.fate.Power.the-variants.{Stays, Goes, Gone}
 
 -- a place of the table at which nothing is planned
 abbrev pub never : Due
@@ -35,3 +38,18 @@ pub record Comes (p : Plan) (i : ℕ) (f : Fate) (q : Plan) : Type 0 where
 -- nothing of the kind is due at place i
 abbrev pub NotYet : Plan → ℕ → Fate → Type 0
 NotYet p i f = dueAt p i .fate ≡ f → p .asks < dueAt p i .at
+
+-- one more thing was asked
+abbrev pub oneMore : ℕ → ℕ
+oneMore n = min (n + 1) (2 ^ 64 - 1)
+
+-- no death is due any more
+abbrev pub NoneDies : Plan → Type 0
+NoneDies p = (i d : ℕ) → i < 32 → NotYet p i (Dies d)
+
+-- What becomes of the plan while something is asked: nothing if the power had gone; else one thing more was asked, and no death is due any more,
+-- nor is a cut, unless there was no room to note one.
+abbrev pub Timely : Plan → Power → Plan → Type 0 → Type 0
+Timely p Gone q full = q ≡ p
+Timely p Goes q full = q .asks ≡ oneMore (p .asks)
+Timely p Stays q full = (q .asks ≡ oneMore (p .asks)) × NoneDies q × (((i seed : ℕ) → i < 32 → NotYet q i (Cut seed)) ⊎ full)

@@ -11,7 +11,7 @@ ghost use lib.Dec.{T};
 ghost use Rattle.store.specs.Shelf.{Dies as Perish, count};
 ghost use Rattle.std.specs.Options.{Cases as BySome};
 ghost use Rattle.memory.specs.Held.{shelfOf};
-ghost use Rattle.memory.specs.Plans.{dueAt, Planned, Comes, NotYet};
+ghost use Rattle.memory.specs.Plans.{dueAt, Planned, Comes, NotYet, NoneDies, Timely};
 ghost use Rattle.memory.specs.Words.{seenOf};
 ghost use Rattle.memory.specs.Went.{Went, Death, Spared};
 use crate::Cell;
@@ -45,7 +45,7 @@ pub const PLANS: usize = 32;
 #[derive(Clone, Copy)]
 pub struct Plan {
     pub asks: u64,
-    pub due: [Due; 32],
+    pub due: [Due; PLANS],
     pub spared: u64,
     pub seed: u64,
     pub step: usize,
@@ -68,7 +68,7 @@ impl Plan {
             due: [Due {
                 at: 0,
                 fate: Fate::Nothing,
-            }; 32],
+            }; PLANS],
             spared: 0,
             seed: 0,
             step: 0,
@@ -188,7 +188,8 @@ pub fn die(log: &mut [u64], state: &mut State, disk: u32) -> bool
 
 // Those die whose time has come, if they may; those that may not are counted.
 pub fn strike(log: &mut [u64], state: &mut State, plan: &mut Plan)
-    ensures { λ _. ⌜ ((cs : List Cell) → Perish (shelfOf cs (now (log .entry)) (now (state .entry))) (seenOf (now (log .entry)) (now (state .entry) .noted)) (shelfOf cs (now (log .exit)) (now (state .exit))) (seenOf (now (log .exit)) (now (state .exit) .noted))) ⌝ }
+    ensures died { λ _. ⌜ ((cs : List Cell) → Perish (shelfOf cs (now (log .entry)) (now (state .entry))) (seenOf (now (log .entry)) (now (state .entry) .noted)) (shelfOf cs (now (log .exit)) (now (state .exit))) (seenOf (now (log .exit)) (now (state .exit) .noted))) ⌝ }
+    ensures timely { λ _. ⌜ NoneDies (now (plan .exit)) ⌝ ∗ ⌜ now (plan .exit) .asks ≡ now (plan .entry) .asks ⌝ }
 {
     for i in 0..PLANS {
         if let Some(d) = death_due(plan, i) {
@@ -202,7 +203,8 @@ pub fn strike(log: &mut [u64], state: &mut State, plan: &mut Plan)
 // Something is asked of the disks: some may die, the power may go.
 pub fn asked(log: &mut [u64], state: &mut State, plan: &mut Plan) -> Power
     requires { ⌜ 0 < now state .left ⌝ }
-    ensures { λ r. ⌜ ((cs : List Cell) → Went (shelfOf cs (now (log .entry)) (now (state .entry))) (seenOf (now (log .entry)) (now (state .entry) .noted)) r (shelfOf cs (now (log .exit)) (now (state .exit))) (seenOf (now (log .exit)) (now (state .exit) .noted))) ⌝ }
+    ensures went { λ r. ⌜ ((cs : List Cell) → Went (shelfOf cs (now (log .entry)) (now (state .entry))) (seenOf (now (log .entry)) (now (state .entry) .noted)) r (shelfOf cs (now (log .exit)) (now (state .exit))) (seenOf (now (log .exit)) (now (state .exit) .noted))) ⌝ }
+    ensures timely { λ r. ⌜ Timely (now (plan .entry)) r (now (plan .exit)) (length (now (log .exit)) ≤ now (state .exit) .noted) ⌝ }
 {
     state.left -= 1;
     if !state.on && state.noted < log.len() {

@@ -24,7 +24,7 @@ ghost use lib.Dec.{T};
 ghost use lib.ListN.{length};
 ghost use denote.Ref.{now as held};
 ghost use Rattle.store.specs.Shelf.{AtStart};
-ghost use Rattle.memory.specs.Held.{shelfOf, start};
+ghost use Rattle.memory.specs.Held.{shelfOf, start, many};
 ghost use Rattle.memory.specs.Words.{seenOf};
 ghost use Rattle.memory.specs.Went.{Death, Spared};
 use fate::Fate;
@@ -119,7 +119,7 @@ impl<'a> Memory<'a> {
 impl Memory<'_> {
     // All begins anew, as `new` has it.
     pub fn restart(&mut self)
-        ensures starts { λ _. ⌜ (2048 ≤ length (held (now (self .entry) .cells)) → length (held (now (self .entry) .cells)) ≤ 68719476736 → AtStart (shelfOf (held (now (self .exit) .cells)) (held (now (self .exit) .log)) (now (self .exit) .state))) ⌝ }
+        ensures starts { λ _. ⌜ (128 ≤ many (held (now (self .entry) .cells)) → many (held (now (self .entry) .cells)) ≤ 4294967296 → AtStart (shelfOf (held (now (self .exit) .cells)) (held (now (self .exit) .log)) (now (self .exit) .state))) ⌝ }
         ensures unseen { λ _. ⌜ seenOf (held (now (self .exit) .log)) (now (self .exit) .state .noted) ≡ [] ⌝ }
     {
         clear(self.cells);

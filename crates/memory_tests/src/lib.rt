@@ -2,7 +2,12 @@
 //
 // Nothing is here but tests and what they share. They stand apart from the crate `memory` so that it is proved but once.
 ghost use mathlib.Core.Path.{_≡_};
+ghost use mathlib.Core.List.{[]};
+ghost use Prim.Native.Nat.{_≤_};
 ghost use lib.ListN.{length};
+ghost use Rattle.std.specs.Options.{Cases as BySome};
+ghost use Rattle.store.specs.Shelf.{AtStart};
+use memory::Cell;
 use memory::Memory;
 use memory::MemoryDisks;
 use memory::MemoryWorld;
@@ -41,6 +46,26 @@ pub fn put(m: &mut Memory, d: u32, s: u64, word: u64) -> Answer {
 pub fn settle(m: &mut Memory) -> Answer {
     m.allow(1);
     m.sync()
+}
+
+// What wants a world as it starts, with nothing seen, and any disks.
+fn first_sight<W: Disks + World>(w: &mut W) -> u64
+    requires starts { ⌜ AtStart (shelf (now w)) ⌝ }
+    requires unseen { ⌜ seen (now w) ≡ [] ⌝ }
+    ensures { λ r. ⌜ 128 ≤ r ⌝ ∗ ⌜ r ≤ 4294967296 ⌝ }
+{
+    w.sectors()
+}
+
+// It can be called on a fresh memory with no further assumption, whatever memory is lent: none where that is too little or too much.
+pub fn fresh<'a>(cells: &'a mut [Cell], log: &'a mut [u64], script: &'a [u64]) -> Option<u64>
+    ensures { λ r. ⌜ BySome r (Unit {0}) (λ n. 128 ≤ n) ⌝ }
+{
+    if cells.len() < 2048 || cells.len() > 68719476736 {
+        return None;
+    }
+    let mut m = Memory::new(cells, log, script);
+    Some(first_sight(&mut m))
 }
 
 #[cfg(test)]

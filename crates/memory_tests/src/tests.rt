@@ -65,6 +65,22 @@ fn a_sync_makes_it_last() -> Result<(), Fail> {
 }
 
 #[test]
+fn a_write_lasts_at_once() -> Result<(), Fail> {
+    let mut cells = [BLANK; 2048];
+    let mut log = [0; 4096];
+    let mut m = Memory::new(&mut cells, &mut log, &[]);
+    let _ = put(&mut m, 0, 0, 1);
+    let _ = settle(&mut m);
+    let _ = put(&mut m, 0, 0, 2);
+    check(m.plan_cut(4, 1234))?;
+    let _ = put(&mut m, 0, 0, 3);
+    check_eq(word_at(&mut m, 0), Some(3))?;
+    check_eq(word_at(&mut m, 0), Some(3))?;
+    check_eq(word_at(&mut m, 0), None)?;
+    check_eq(word_at(&mut m, 0), Some(2))
+}
+
+#[test]
 fn no_third_dies() -> Result<(), Fail> {
     let mut cells = [BLANK; 2048];
     let mut log = [0; 4096];
