@@ -68,11 +68,13 @@ fn show(what: &str, table: &Table) {
     println!("{what}: {}", parts.join(", "));
 }
 
-// Disk d dies while another sector is read, which isn't on it: the store has not noticed.
-fn with_dead(d: u64, other: u64) -> Script {
+// These disks die while a sector is read that is on none of them: the store has not noticed.
+fn with_dead(disks: &[u64], other: u64) -> Script {
     let mut s = Script::new(SECTORS);
     s.ask(1, Ask::Write(other), 5);
-    s.dies(d, 1);
+    for d in disks {
+        s.dies(*d, 1);
+    }
     s.ask(1, Ask::Read(other), 0);
     s
 }
@@ -90,36 +92,63 @@ fn lies_on(shelf: &mut Shelf, d: u64) -> Result<Vec<u64>, String> {
     Ok(found)
 }
 
-fn counted(shelf: &mut Shelf) -> Result<(), String> {
-    let (mut read, mut write) = (Table::new(), Table::new());
+// One more that took so many.
+fn tick(table: &mut Table, asks: u64) {
+    *table.entry(asks).or_default() += 1;
+}
+
+// With all disks alive, each sector.
+fn alive(shelf: &mut Shelf) -> Result<(), String> {
+    let (mut read, mut write, mut flush, mut size) = (Table::new(), Table::new(), Table::new(), Table::new());
     for s in 0..SIZE {
         let mut before = Script::new(SECTORS);
         before.ask(1, Ask::Write(s), 5);
-        *read.entry(asks_of(shelf, &before, Ask::Read(s))?).or_default() += 1;
-        *write.entry(asks_of(shelf, &before, Ask::Write(s))?).or_default() += 1;
+        tick(&mut read, asks_of(shelf, &before, Ask::Read(s))?);
+        tick(&mut write, asks_of(shelf, &before, Ask::Write(s))?);
+        tick(&mut flush, asks_of(shelf, &before, Ask::Flush)?);
+        tick(&mut size, asks_of(shelf, &before, Ask::Size)?);
     }
     show("a read, all disks alive", &read);
     show("a write, all disks alive", &write);
+    show("a flush", &flush);
+    show("a size", &size);
+    Ok(())
+}
+
+// With these sets of disks dead, each sector that is on the first of them. Later: another one that is on it was read before.
+fn dead(shelf: &mut Shelf, sets: &[&[u64]]) -> Result<(), String> {
     let (mut first, mut later, mut elsewhere, mut write, mut again) = (Table::new(), Table::new(), Table::new(), Table::new(), Table::new());
+    let mut on = Vec::new();
     for d in 0..4 {
-        let on = lies_on(shelf, d)?;
-        let other = (0..SIZE).find(|s| !on.contains(s)).ok_or("all on one disk")?;
-        for s in on.iter().copied().filter(|s| *s != other) {
-            let mut before = with_dead(d, other);
-            *first.entry(asks_of(shelf, &before, Ask::Read(s))?).or_default() += 1;
-            *write.entry(asks_of(shelf, &before, Ask::Write(s))?).or_default() += 1;
-            before.ask(1, Ask::Read(s), 0);
-            *later.entry(asks_of(shelf, &before, Ask::Read(s))?).or_default() += 1;
-            *again.entry(asks_of(shelf, &before, Ask::Write(s))?).or_default() += 1;
-            *elsewhere.entry(asks_of(shelf, &before, Ask::Read(other))?).or_default() += 1;
+        on.push(lies_on(shelf, d)?);
+    }
+    for set in sets {
+        let mine = &on[set[0] as usize];
+        let other = (0..SIZE).find(|s| set.iter().all(|d| !on[*d as usize].contains(s))).ok_or("no other sector")?;
+        for (i, s) in mine.iter().enumerate() {
+            let mut before = with_dead(set, other);
+            tick(&mut first, asks_of(shelf, &before, Ask::Read(*s))?);
+            tick(&mut write, asks_of(shelf, &before, Ask::Write(*s))?);
+            before.ask(1, Ask::Read(mine[(i + 1) % mine.len()]), 0);
+            tick(&mut later, asks_of(shelf, &before, Ask::Read(*s))?);
+            tick(&mut again, asks_of(shelf, &before, Ask::Write(*s))?);
+            tick(&mut elsewhere, asks_of(shelf, &before, Ask::Read(other))?);
         }
     }
-    show("a read of a sector whose disk is dead, the first time", &first);
-    show("later ones", &later);
-    show("a read of another sector then", &elsewhere);
-    show("a write to a sector whose disk is dead, the first time", &write);
-    show("later ones", &again);
+    show("  a read of a sector whose disk is dead, the first", &first);
+    show("  later ones", &later);
+    show("  a read of a sector whose disk is alive", &elsewhere);
+    show("  a write to a sector whose disk is dead, the first", &write);
+    show("  later ones", &again);
     Ok(())
+}
+
+fn counted(shelf: &mut Shelf) -> Result<(), String> {
+    alive(shelf)?;
+    println!("one disk dead");
+    dead(shelf, &[&[0], &[1], &[2], &[3]])?;
+    println!("two disks dead");
+    dead(shelf, &[&[0, 1], &[0, 2], &[0, 3], &[1, 2], &[1, 3], &[2, 3]])
 }
 
 // A script by chance that leaves nothing planned but what comes with the next thing: writes, cuts and deaths.
