@@ -20,3 +20,4 @@ pub mod Asking
 pub mod Turning
 pub mod Performing
 pub mod Steps
+pub mod Listing

@@ -16,6 +16,7 @@ ghost use Rattle.store.specs.Shelf.{Shelf, MayAsk, MayWrite, Reading, Writing,
 ghost use Rattle.store.specs.Store.{Explained};
 ghost use Rattle.store.specs.Between.{ticks, Serving, Recoverable, Lost, Opened, AfterTurn, Stopped, answered};
 ghost use Rattle.store.specs.Examples.{FirstAnswers};
+ghost use Rattle.store.specs.Listed.{Listed};
 ghost use Rattle.store.specs.Recovers.{Begins};
 ghost use Rattle.store.specs.Promise.{can, said, OnePlace, NeverSmaller, NothingMadeUp, CoreBuilt};
 
@@ -313,6 +314,13 @@ pub fn nothing_made_up() -> u8
 // A blank shelf is a store's: nothing needs to be done to it before it comes up for the first time.
 pub fn blank_shelf() -> u8
     ensures { λ _. ⌜ Begins ⌝ }
+{
+    0
+}
+
+// What the layout says of the members as a list is what is seen of them.
+pub fn members_listed() -> u8
+    ensures { λ _. ⌜ Listed ⌝ }
 {
     0
 }
