@@ -2,12 +2,9 @@
 -- Assumes nothing.
 use mathlib.Core.Path.{_≡_, refl, sym, _∙_, ap, subst}
 use mathlib.Core.Logic.{_⊎_, inl, inr}
-use mathlib.Core.Bool.{Bool, true, false, _&&_}
 use mathlib.Core.List.{List, [], _∷_, List·Memᴰ, List·Memᴰ·cases-cons, List·Memᴰ·eq-of-singleton}
 use Prim.Native.Nat.{ℕ, zero, suc, _+_, _<_, _≤_}
 use native.Mathlib.Omega.{arith}
-use lib.Dec.{T, ltb}
-use Rattle.std.proofs.shelf.Tests.{lt-ltb}
 use lib.ListN.{length, getD, replicate}
 use Rattle.layout.specs.Members.{Roster}
 use Rattle.layout.specs.Super.{Super, superOf, blank, Proper}
@@ -16,8 +13,7 @@ use Rattle.store.specs.Shelf.{Shelf, AtStart, count}
 use Rattle.store.specs.Durable.{found, Among, Steady, Employed}
 use Rattle.store.specs.Keeping.{Columns, Holds, Kept, Sound, Ready}
 use Rattle.store.specs.Recovers.{empty, Begins}
-use Rattle.store.proofs.Truths.{true-T, T-true}
-use Rattle.store.proofs.Counting.{count-none}
+use Rattle.store.proofs.Laws.{start-steady, start-employed}
 
 four : (p : ℕ) → p < 4 → getD (0 ∷ 1 ∷ 2 ∷ 3 ∷ []) p 0 ≡ p
 four zero l = refl
@@ -40,23 +36,12 @@ proper =
       numbered = tt;
     }
 
-and-false : (a : Bool) → (a && false) ≡ false
-and-false true = refl
-and-false false = refl
-
 says-blank : (b : List ℕ) → b ≡ replicate 64 0 → superOf b ≡ blank
 says-blank b e = unmarked-says b (λ q. let z : 0 ≡ 0x6e75_6c74_736a_6566 = sym (ap (λ (w : List ℕ). getD w 0 0) e) ∙ q in omega (arith, z))
 
 module _ (x : Shelf) (s : AtStart x) where
   nothing : (d t : ℕ) (b : List ℕ) → List·Memᴰ b (found x d t) → b ≡ replicate 64 0
   nothing d t b m = elim (List·Memᴰ·cases-cons m) [ inl e ↦ e ∙ s .5 d t | inr k ↦ List·Memᴰ·eq-of-singleton (s .6 d t b k) ]
-
-  steady : Steady x
-  steady =
-      record {
-        few = omega (arith, count-none 16 (λ d. x .uses d && x .lost d) (λ d. ap (λ (v : Bool). x .uses d && v) (s .3 d .1) ∙ and-false (x .uses d)));
-        used = λ d t. absurd (subst T (s .3 d .1) t);
-      }
 
   -- who holds a place of a blank store
   member : (d p r : ℕ) → Holds blank d p r → d < 4
@@ -66,18 +51,12 @@ module _ (x : Shelf) (s : AtStart x) where
   pub kept : Kept x blank empty
   kept =
       record {
-        steady = steady;
+        steady = start-steady s;
         least = s .0;
         most = s .1;
         inside = tt;
         proper = proper;
-        employed = λ d p r h.
-            let l = member d p r h in
-            record {
-              there = omega (arith, l);
-              used = true-T (s .3 d .0 ∙ lt-ltb d 4 l);
-              owed = λ e. absurd (subst T e (s .4 d (omega (arith, l))));
-            };
+        employed = λ d p r h. start-employed s d (member d p r h);
         stripes = λ d p r h l t b m. nothing d _ b m;
       }
 

@@ -37,11 +37,7 @@ use Rattle.store.specs.declared.Store.{Store}
 use Rattle.store.proofs.Standing.{sound-twice}
 use Rattle.store.proofs.Histories.{mourned, explains-deaths, explains-later}
 use Rattle.store.proofs.Opening.{left-lost}
-use Rattle.store.proofs.Turning.{young-way}
-
-both : (x y : Bool) → T x → T y → T (x && y)
-both true y p q = q
-both false y p q = p
+use Rattle.store.proofs.Turning.{both, young-way}
 
 starts-self : (w : List ℕ) → T (startsWith w w)
 unfolding startsWith

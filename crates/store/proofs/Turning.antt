@@ -28,7 +28,7 @@ use Rattle.store.specs.declared.Store.{Store}
 use Rattle.store.proofs.Histories.{still}
 use Rattle.store.proofs.Asking.{tells-nothing}
 
-both : (x y : Bool) → T x → T y → T (x && y)
+pub both : (x y : Bool) → T x → T y → T (x && y)
 both true y p q = q
 both false y p q = p
 

@@ -1,6 +1,6 @@
 // What a line of the script does to the disks, and what is answered.
 //
-// Nothing is touched here but the memory that is lent; answers go where they are told to. There is no store yet: `turn` is where one
+// Nothing is touched here but the memory that is lent; answers go where they are told to. No store is played on them yet: `turn` is where it
 // will have its turns, and the commands that need it are answered `line K?`.
 use memory::Memory;
 use script::Command;
