@@ -1,5 +1,7 @@
 // The store on disks in lent memory, for programs in C and Rust, where no proof holds a caller to a contract: what doesn't fit is refused.
 // It touches nothing but what it is lent.
+#![tactic(auto)]
+
 ghost use Rattle.std.specs.Prelude.{◌≡◌, true, false, length};
 ghost use Rattle.export.specs.Fitting.{Fitting};
 

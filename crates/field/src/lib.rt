@@ -1,4 +1,6 @@
 // The arithmetic by which up to two lost columns of a stripe are had again. It touches no disk and no heap: all that it reads and writes is lent to it.
+#![tactic(auto)]
+
 mod by_table;
 mod column;
 mod element;

@@ -1,5 +1,7 @@
 // Known values of the field from outside, and the example of six columns, run through the crate's public calls.
 // They stand apart from the field, whose proof is then done once.
+#![tactic(auto)]
+
 ghost use Rattle.std.specs.Prelude.{◌≡◌, ◌+◌, ◌*◌, ◌<◌, ◌≤◌, length};
 
 #[cfg(test)]

@@ -2,6 +2,8 @@
 //
 // Nothing here touches a disk, and nothing is stored outside the values that are passed: these are functions on numbers and small
 // structs, so that what is proved of them is proved once, below everything that asks disks.
+#![tactic(auto)]
+
 mod members;
 mod place;
 mod superblock;

@@ -9,6 +9,8 @@
 // - `usage`: which disks are in use.
 // - `script`: what is asked next.
 // - `world`: the two traits.
+#![tactic(auto)]
+
 mod diary;
 mod fate;
 mod platter;

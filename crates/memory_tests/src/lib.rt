@@ -1,6 +1,8 @@
 // What the disks in memory do on examples: which content a cut leaves, who may die, when a planned death comes, what is asked next.
 //
 // Nothing is here but tests and what they share. They stand apart from the crate `memory` so that it is proved but once.
+#![tactic(auto)]
+
 ghost use Rattle.std.specs.Prelude.{◌≡◌, ◌≤◌, [], length, IfSome};
 ghost use Rattle.store.specs.Shelf.{AtStart};
 

@@ -1,5 +1,7 @@
 // Plays the store on disks in memory: the power goes at every single ask in turn, again while it comes up, and disks die before,
 // during and after. All that is told is held against a plain model.
+#![tactic(auto)]
+
 mod model;
 mod tape;
 

@@ -2,6 +2,8 @@
 //
 // Nothing here is touched but the bytes that are lent. `split` cuts a line into words, `value` reads a word as a number or a
 // byte, and `parse` puts the two together. What each must answer is written in specs/: Words, Numbers and Meaning.
+#![tactic(auto)]
+
 mod split;
 mod value;
 

@@ -4,6 +4,8 @@
 // store never sees (who asks, the power, how often the disks may be asked). Their contracts cite specs/: Event (what is seen),
 // Shelf (the disks), Store (what whoever uses the store sees) and Promise (what is promised). The functions below them have no
 // work to do: each one's contract is a theorem about those definitions.
+#![tactic(auto)]
+
 ghost use Rattle.std.specs.Prelude.{◌≡◌, ℕ, ◌+◌, ◌*◌, ◌^◌, ◌<◌, ◌≤◌, Bool, true, false, T, List, [], ◌∷◌, length, is_ok};
 ghost use Rattle.store.specs.Event.{Event, Told, Turned, Cut};
 ghost use Rattle.store.specs.Shelf.{Shelf, MayAsk, MayWrite, Reading, Writing, Syncing, Back, AtStart, allowed, takes_in, told_of};

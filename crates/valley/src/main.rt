@@ -3,6 +3,8 @@
 // Only `main` knows the runtime. The others are lent what they use of it: where the script comes from, and where answers go. What is
 // large, the disks and the log of what was seen, are arrays of `main` that are lent too. `line` keeps a line as it comes in, and
 // `village` carries it out.
+#![tactic(auto)]
+
 mod line;
 mod village;
 
