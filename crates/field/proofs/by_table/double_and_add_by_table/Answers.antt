@@ -8,7 +8,7 @@ loop-i-init c = (upto_none double8 c.args.to.now c.args.other.now, refl)
 
 pub loop-i-preserved : goal.loop-i-preserved
 loop-i-preserved c = (
-  upto_more double8 c.loop-i.i c.args.to.now c.args.other.now c.loop-i.to c.doubled-by-table.result (omega arith) c.loop-i.invariant.0 c.doubled-by-table.ensures,
+  upto_more double8 c.loop-i.i c.args.to.now c.args.other.now c.loop-i.to c.doubled_by_table.result (omega arith) c.loop-i.invariant.0 c.doubled_by_table.ensures,
   omega arith,
 )
 

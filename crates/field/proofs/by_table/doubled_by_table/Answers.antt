@@ -11,11 +11,11 @@ fits j v r d hj hv er ed = subst (λ (x : ℕ). x < 2 ^ 64) (sym (next_element j
 pub loop-j-init : goal.loop-j-init
 loop-j-init c = no_element c.args.v (omega arith)
 
-pub overflow-mul-r : goal.overflow-mul-r
-overflow-mul-r c = omega (arith, fits c.loop-j.j c.args.v c.loop-j.r (double (c.args.v / 2 ^ (56 - 8 * c.loop-j.j) % 256)) (omega arith) (omega arith) c.loop-j.invariant refl)
+pub overflow_mul-r : goal.overflow_mul-r
+overflow_mul-r c = omega (arith, fits c.loop-j.j c.args.v c.loop-j.r (double (c.args.v / 2 ^ (56 - 8 * c.loop-j.j) % 256)) (omega arith) (omega arith) c.loop-j.invariant refl)
 
-pub overflow-add-r : goal.overflow-add-r
-overflow-add-r c =
+pub overflow_add-r : goal.overflow_add-r
+overflow_add-r c =
     let d : c.byte.result ≡ double (c.args.v / 2 ^ (56 - 8 * c.loop-j.j) % 256) = c.byte.ensures ∙ c.twice.ensures ∙ ap double c.new-element.ensures in
     omega (arith, fits c.loop-j.j c.args.v c.loop-j.r c.byte.result (omega arith) (omega arith) c.loop-j.invariant d)
 

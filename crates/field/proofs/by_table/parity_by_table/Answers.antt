@@ -15,7 +15,7 @@ loop-i-preserved c =
     let n : 64 * i + 64 - 64 * i ≡ 64 = omega arith in (
       omega arith,
       gathered_more c.args.k i c.loop-i.i c.args.stripe.now c.loop-i.p c.loop-i.q _ _ _ (omega arith) (omega arith)
-          (ap (λ (m : ℕ). take m (drop (64 * i) c.args.stripe.now)) n) c.loop-i.invariant.1 c.add-to-steps.ensures.value c.double-and-add-by-table-steps.ensures.value,
+          (ap (λ (m : ℕ). take m (drop (64 * i) c.args.stripe.now)) n) c.loop-i.invariant.1 c.add_to-steps.ensures.value c.double_and_add_by_table-steps.ensures.value,
       omega arith,
     )
 

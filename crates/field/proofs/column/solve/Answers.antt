@@ -5,7 +5,7 @@ use Rattle.field.proofs.column.solve.Goals as goal
 pub returns : goal.returns
 returns c = record {
   value =
-      solved c.args.x c.args.y c.apart.result c.args.p.now c.args.q.now c.lower-lowered.new.words c.add-to-joined.new.to c.scale-parted.new.words c.add-to.new.to
-      (omega arith) (omega arith) c.apart.ensures c.lower-lowered.ensures.value c.add-to-joined.ensures.value c.scale-parted.ensures.value c.add-to.ensures.value;
+      solved c.args.x c.args.y c.apart.result c.args.p.now c.args.q.now c.lower-lowered.new.words c.add_to-joined.new.to c.scale-parted.new.words c.add_to.new.to
+      (omega arith) (omega arith) c.apart.ensures c.lower-lowered.ensures.value c.add_to-joined.ensures.value c.scale-parted.ensures.value c.add_to.ensures.value;
   steps = omega arith;
 }

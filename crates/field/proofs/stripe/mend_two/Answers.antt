@@ -5,7 +5,7 @@ use Rattle.field.proofs.stripe.mend_two.Goals as goal
 pub returns-then-b-lt2 : goal.returns-then-b-lt2
 returns-then-b-lt2 c = record {
   mended = λ cs cw but.
-      anew_mends c.args.k c.args.stripe.now c.make-parity.new.stripe (omega arith) c.make-parity.ensures.anew cs cw
+      anew_mends c.args.k c.args.stripe.now c.make_parity.new.stripe (omega arith) c.make_parity.ensures.anew cs cw
       (λ i h n0 n1. but i h (λ e. n0 (omega arith)) (λ e. n1 (omega arith)));
   steps = omega arith;
 }
@@ -13,8 +13,8 @@ returns-then-b-lt2 c = record {
 pub returns-then-a-eq0 : goal.returns-then-a-eq0
 returns-then-a-eq0 c = record {
   mended = λ cs cw but.
-      restored_anew c.args.k 0 c.args.b c.args.stripe.now c.from-q-steps.new.stripe c.make-parity-then-a-eq0.new.stripe (omega arith) (omega arith) (omega arith)
-      c.from-q-steps.ensures.restored c.make-parity-then-a-eq0.ensures.anew cs cw
+      restored_anew c.args.k 0 c.args.b c.args.stripe.now c.from_q-steps.new.stripe c.make_parity-then-a-eq0.new.stripe (omega arith) (omega arith) (omega arith)
+      c.from_q-steps.ensures.restored c.make_parity-then-a-eq0.ensures.anew cs cw
       (λ i h n0 nb. but i h (λ e. n0 (omega arith)) nb);
   steps = omega arith;
 }
@@ -22,8 +22,8 @@ returns-then-a-eq0 c = record {
 pub returns-else-a-eq0 : goal.returns-else-a-eq0
 returns-else-a-eq0 c = record {
   mended = λ cs cw but.
-      restored_anew c.args.k 1 c.args.b c.args.stripe.now c.from-p-steps.new.stripe c.make-parity-else-a-eq0.new.stripe (omega arith) (omega arith) (omega arith)
-      c.from-p-steps.ensures.restored c.make-parity-else-a-eq0.ensures.anew cs cw
+      restored_anew c.args.k 1 c.args.b c.args.stripe.now c.from_p-steps.new.stripe c.make_parity-else-a-eq0.new.stripe (omega arith) (omega arith) (omega arith)
+      c.from_p-steps.ensures.restored c.make_parity-else-a-eq0.ensures.anew cs cw
       (λ i h n1 nb. but i h (λ e. n1 (omega arith)) nb);
   steps = omega arith;
 }

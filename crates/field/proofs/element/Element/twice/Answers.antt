@@ -11,8 +11,8 @@ is : (a : ℕ) → a < 256 → get_or table a 0 ≡ double a
 unfolding double
 is a h = table_rule table double 256 tt a h
 
-pub invariant-of-result : goal.invariant-of-result
-invariant-of-result c = (subst (λ (x : ℕ). x < 256) (sym (is c.args.self.value c.args.self.ok)) (double_lt c.args.self.value c.args.self.ok), tt)
+pub invariant_of-result : goal.invariant_of-result
+invariant_of-result c = (subst (λ (x : ℕ). x < 256) (sym (is c.args.self.value c.args.self.ok)) (double_lt c.args.self.value c.args.self.ok), tt)
 
 pub returns : goal.returns
 returns c = is c.args.self.value c.args.self.ok

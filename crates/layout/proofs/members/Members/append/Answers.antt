@@ -3,8 +3,8 @@ use Rattle.std.proofs.lemmas.List.{take_more_set}
 use Rattle.layout.proofs.Listing.{listed_length, absent_places, set_known, set_apart}
 use Rattle.layout.proofs.members.Members.append.Goals as goal
 
-pub invariant-of-self : goal.invariant-of-self
-invariant-of-self c =
+pub invariant_of-self : goal.invariant_of-self
+invariant_of-self c =
     let m = c.args.self.now in
     let fits : m.count ≤ length m.disks = omega arith in
     let few : m.count < 12 = omega (arith, listed_length m.count m.disks fits) in

@@ -2,8 +2,8 @@ use Rattle.std.proofs.Common.{◌<◌, ◌≤◌, length, arith}
 use Rattle.layout.proofs.Listing.{take_of_set, listed_length, absent_places, set_known, set_apart}
 use Rattle.layout.proofs.members.Members.put.Goals as goal
 
-pub invariant-of-self : goal.invariant-of-self
-invariant-of-self c =
+pub invariant_of-self : goal.invariant_of-self
+invariant_of-self c =
     let m = c.args.self.now in
     let fits : m.count ≤ length m.disks = omega arith in
     let l : c.args.p < length m.disks = omega (arith, listed_length m.count m.disks fits) in (

@@ -2,8 +2,8 @@ use Rattle.std.proofs.Common.{◌≡◌, ℕ, ◌<◌, ◌≤◌, List, length, 
 use Rattle.layout.proofs.Listing.{listed_at}
 use Rattle.layout.proofs.members.Members.read.Goals as goal
 
-pub invariant-of-result : goal.invariant-of-result
-invariant-of-result c =
+pub invariant_of-result : goal.invariant_of-result
+invariant_of-result c =
     let w = c.args.words.now in
     let ds = c.narrow.new.disks in
     let fits : length w ≤ length ds = omega arith in

@@ -7,12 +7,12 @@ use Rattle.layout.proofs.superblock.Superblock.decode.Goals as goal
 pub returns-then-words-ne-MARK : goal.returns-then-words-ne-MARK
 returns-then-words-ne-MARK c = (c.first.ensures.0 ∙ sym (unmarked_says c.args.words.now c.if-words-ne-MARK.true), c.first.ensures.1)
 
-pub overflow-add-many : goal.overflow-add-many
-overflow-add-many c =
+pub overflow_add-many : goal.overflow_add-many
+overflow_add-many c =
     let w = c.args.words.now in let f = few_said (get_or w 2 0) w c.requires.lent (proper_marked w c.if-words-ne-MARK.false c.requires.proper).roster in omega arith
 
-pub slice-bounds-read-end : goal.slice-bounds-read-end
-slice-bounds-read-end c =
+pub slice_bounds-read-end : goal.slice_bounds-read-end
+slice_bounds-read-end c =
     let w = c.args.words.now in let f = few_said (get_or w 2 0) w c.requires.lent (proper_marked w c.if-words-ne-MARK.false c.requires.proper).roster in search rules
 
 pub read-requires : goal.read-requires
@@ -21,8 +21,8 @@ read-requires c =
     let same : get_or w 2 0 ≡ 8 + get_or w 2 0 - 8 = omega arith in
     subst (λ (n : ℕ). Roster (take n (drop 8 w))) same (proper_marked w c.if-words-ne-MARK.false c.requires.proper).roster
 
-pub rebuild-from-requires : goal.rebuild-from-requires
-rebuild-from-requires c =
+pub rebuild_from-requires : goal.rebuild_from-requires
+rebuild_from-requires c =
     let w = c.args.words.now in record { lent = c.requires.lent; small = small_said w (take (get_or w 2 0) (drop 8 w)) (proper_marked w c.if-words-ne-MARK.false c.requires.proper).joins }
 
 pub returns : goal.returns
@@ -31,4 +31,4 @@ returns c =
     let m = c.read.result in
     let many : 8 + get_or w 2 0 - 8 ≡ get_or w 2 0 = omega arith in
     let members : listed m.count m.disks ≡ take (get_or w 2 0) (drop 8 w) = c.read.ensures.0 ∙ ap (λ (n : ℕ). take n (drop 8 w)) many in
-    (parts_same (get_or w 1 0) _ _ _ _ _ _ members c.rebuild-from.ensures c.journal-from.ensures ∙ sym (marked_says w c.if-words-ne-MARK.false), c.read.ensures.1)
+    (parts_same (get_or w 1 0) _ _ _ _ _ _ members c.rebuild_from.ensures c.journal_from.ensures ∙ sym (marked_says w c.if-words-ne-MARK.false), c.read.ensures.1)

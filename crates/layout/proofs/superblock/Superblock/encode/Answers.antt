@@ -4,4 +4,4 @@ use Rattle.layout.proofs.Coding.{encoded}
 use Rattle.layout.proofs.superblock.Superblock.encode.Goals as goal
 
 pub returns : goal.returns
-returns c = c.write-members.ensures ∙ encoded (says c.args.self.now) c.write-heading.new.words c.write-heading.ensures
+returns c = c.write_members.ensures ∙ encoded (says c.args.self.now) c.write_heading.new.words c.write_heading.ensures
