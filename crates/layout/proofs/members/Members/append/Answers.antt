@@ -8,13 +8,12 @@ invariant_of-self c =
     let m = c.args.self.now in
     let fits : m.count ≤ length m.disks = omega arith in
     let few : m.count < 12 = omega (arith, listed_length m.count m.disks fits) in
-    let l : m.count < length m.disks = omega arith in (
-      (omega arith, omega arith),
-      (
-        set_known (m.count + 1) _ _ _ l c.requires.new.0 (λ k b n. m.known k (omega arith)),
-        (set_apart (m.count + 1) _ _ _ l (λ k b n. absent_places m.count m.disks fits c.args.d c.requires.new.1 k (omega arith)) (λ p q b h u v. m.apart p q (omega arith) h), tt),
-      ),
-    )
+    let l : m.count < length m.disks = omega arith in
+    record {
+      few = (omega arith, omega arith);
+      known = set_known (m.count + 1) _ _ _ l c.requires.new.0 (λ k b n. m.known k (omega arith));
+      apart = set_apart (m.count + 1) _ _ _ l (λ k b n. absent_places m.count m.disks fits c.args.d c.requires.new.1 k (omega arith)) (λ p q b h u v. m.apart p q (omega arith) h);
+    }
 
 pub returns : goal.returns
 returns c =
