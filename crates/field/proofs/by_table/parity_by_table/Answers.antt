@@ -23,7 +23,7 @@ pub returns : goal.returns
 returns c =
     let e : c.loop-i.i ≡ 2 = omega arith in
     let h : (n : ℕ) → get_or c.args.stripe.now n 0 < 2 ^ 64
-    = λ n. let t : Fits w64 (get_or c.args.stripe.now n 0) = c.type-inv.stripe n in omega arith in
+    = λ n. let t : Fits w64 (get_or c.args.stripe.now n 0) = c.type_inv.stripe n in omega arith in
     let g : Gathered c.args.k 2 c.args.stripe.now c.loop-i.p c.loop-i.q
     = subst (λ (i : ℕ). Gathered c.args.k i c.args.stripe.now c.loop-i.p c.loop-i.q) e c.loop-i.invariant.1 in
     record {

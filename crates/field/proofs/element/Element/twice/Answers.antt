@@ -12,7 +12,7 @@ unfolding double
 is a h = table_rule table double 256 tt a h
 
 pub invariant_of-result : goal.invariant_of-result
-invariant_of-result c = (subst (λ (x : ℕ). x < 256) (sym (is c.args.self.value c.args.self.ok)) (double_lt c.args.self.value c.args.self.ok), tt)
+invariant_of-result c = record { ok = subst (λ (x : ℕ). x < 256) (sym (is c.args.self.value c.args.self.ok)) (double_lt c.args.self.value c.args.self.ok) }
 
 pub returns : goal.returns
 returns c = is c.args.self.value c.args.self.ok
