@@ -1,5 +1,5 @@
 // The crate's calls for programs in C and Rust, where no proof holds a caller to a contract: what doesn't fit is refused.
-// It touches nothing but the words that it is lent.
+// They touch nothing but the words that they are lent. The crate `field_c` exports them.
 ghost use Rattle.std.specs.Prelude.{◌≡◌, ◌-◌, true, false};
 ghost use Rattle.field.specs.Column.{IsP, IsQ};
 ghost use Rattle.field.specs.Stripe.{column, data_of, Anew, MendsTwo};
@@ -8,8 +8,7 @@ use crate::by_table::parity_by_table;
 use crate::stripe::{make_parity, mend_two};
 
 // P and Q anew, in a stripe of k columns.
-#[unsafe(no_mangle)]
-pub extern "C" fn field_make_parity(stripe: &mut [u64], k: usize) -> bool
+pub fn field_make_parity(stripe: &mut [u64], k: usize) -> bool
     ensures made { result ≡ true → Anew k stripe.old stripe.new }
     ensures refused { result ≡ false → stripe.new ≡ stripe.old }
 {
@@ -21,8 +20,7 @@ pub extern "C" fn field_make_parity(stripe: &mut [u64], k: usize) -> bool
 }
 
 // Columns a and b from the others, a < b, in a stripe of k columns.
-#[unsafe(no_mangle)]
-pub extern "C" fn field_mend(stripe: &mut [u64], k: usize, a: usize, b: usize) -> bool
+pub fn field_mend(stripe: &mut [u64], k: usize, a: usize, b: usize) -> bool
     ensures made { result ≡ true → MendsTwo k a b stripe.old stripe.new }
     ensures refused { result ≡ false → stripe.new ≡ stripe.old }
 {
@@ -34,13 +32,7 @@ pub extern "C" fn field_mend(stripe: &mut [u64], k: usize, a: usize, b: usize) -
 }
 
 // P and Q of a stripe of k columns into `p` and `q`, by the element's table.
-#[unsafe(no_mangle)]
-pub extern "C" fn field_parity_by_table(
-    stripe: &[u64],
-    k: usize,
-    p: &mut [u64],
-    q: &mut [u64],
-) -> bool
+pub fn field_parity_by_table(stripe: &[u64], k: usize, p: &mut [u64], q: &mut [u64]) -> bool
     ensures is_p { result ≡ true → IsP (k - 2) (data_of (λ i. column i stripe.now)) p.new }
     ensures is_q { result ≡ true → IsQ (k - 2) (data_of (λ i. column i stripe.now)) q.new }
     ensures refused { result ≡ false → (p.new ≡ p.old) × (q.new ≡ q.old) }
