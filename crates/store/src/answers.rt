@@ -10,10 +10,10 @@ use crate::{Answer, Disks, Gone};
 
 // Sector s of disk `at`, and whether the disk lives: if it does, `into` has what it shows.
 pub fn read_sector<D: Disks>(d: &mut D, at: u32, s: u64, into: &mut [u64]) -> Result<bool, Gone>
-    requires may { MayAsk (shelf d.old) at s }
+    requires may { MayAsk (D.shelf d.old) at s }
     requires lent { length into.old ≡ 64 }
-    ensures went { Went 1 Nowhere (shelf d.old) (seen d.old) (shelf d.new) (seen d.new) }
-    ensures how { MatchResult result (λ lives. Heard at s into.new lives (shelf d.new)) (λ _. (shelf d.new).on ≡ false) }
+    ensures went { Went 1 Nowhere (D.shelf d.old) (D.seen d.old) (D.shelf d.new) (D.seen d.new) }
+    ensures how { MatchResult result (λ lives. Heard at s into.new lives (D.shelf d.new)) (λ _. (D.shelf d.new).on ≡ false) }
 {
     match d.read(at, s, into) {
         Answer::Fine => Ok(true),
@@ -24,10 +24,10 @@ pub fn read_sector<D: Disks>(d: &mut D, at: u32, s: u64, into: &mut [u64]) -> Re
 
 // These words to sector s of disk `at`, and whether the disk lives: if it does, it shows them.
 pub fn write_sector<D: Disks>(d: &mut D, at: u32, s: u64, words: &[u64]) -> Result<bool, Gone>
-    requires may { MayWrite (shelf d.old) at s }
+    requires may { MayWrite (D.shelf d.old) at s }
     requires lent { length words.now ≡ 64 }
-    ensures went { Went 1 (Here at s words.now) (shelf d.old) (seen d.old) (shelf d.new) (seen d.new) }
-    ensures how { MatchResult result (λ lives. Wrote at s words.now lives (shelf d.new)) (λ _. (shelf d.new).on ≡ false) }
+    ensures went { Went 1 (Here at s words.now) (D.shelf d.old) (D.seen d.old) (D.shelf d.new) (D.seen d.new) }
+    ensures how { MatchResult result (λ lives. Wrote at s words.now lives (D.shelf d.new)) (λ _. (D.shelf d.new).on ≡ false) }
 {
     match d.write(at, s, words) {
         Answer::Fine => Ok(true),
@@ -38,9 +38,9 @@ pub fn write_sector<D: Disks>(d: &mut D, at: u32, s: u64, words: &[u64]) -> Resu
 
 // All that is shown lasts.
 pub fn sync_all<D: Disks>(d: &mut D) -> Result<(), Gone>
-    requires { 0 < (shelf d.old).left }
-    ensures went { Went 1 Nowhere (shelf d.old) (seen d.old) (shelf d.new) (seen d.new) }
-    ensures how { MatchResult result (λ _. Synced (shelf d.new)) (λ _. (shelf d.new).on ≡ false) }
+    requires { 0 < (D.shelf d.old).left }
+    ensures went { Went 1 Nowhere (D.shelf d.old) (D.seen d.old) (D.shelf d.new) (D.seen d.new) }
+    ensures how { MatchResult result (λ _. Synced (D.shelf d.new)) (λ _. (D.shelf d.new).on ≡ false) }
 {
     match d.sync() {
         Answer::Fine => Ok(()),

@@ -11,13 +11,13 @@ use layout::Superblock;
 
 // The words of a superblock to the members at its places 0, 1 and 2.
 fn write_copies<D: Disks>(d: &mut D, next: &Superblock, words: &[u64]) -> Result<(), Gone>
-    requires left { 3 ≤ (shelf d.old).left }
-    requires size { 0 < (shelf d.old).sectors }
+    requires left { 3 ≤ (D.shelf d.old).left }
+    requires size { 0 < (D.shelf d.old).sectors }
     requires proper { Proper (says next.now) }
-    requires employed { (p : ℕ) → p < 3 → Employed (shelf d.old) (slice_index (says next.now).members p) }
+    requires employed { (p : ℕ) → p < 3 → Employed (D.shelf d.old) (slice_index (says next.now).members p) }
     requires lent { (length words.now ≡ 64) × (super_of words.now ≡ says next.now) }
-    ensures went { Went 3 (Heading (says next.now)) (shelf d.old) (seen d.old) (shelf d.new) (seen d.new) }
-    ensures how { MatchResult result (λ _. Copying 3 (says next.now) words.now (shelf d.old) (seen d.old) (shelf d.new) (seen d.new)) (λ _. (shelf d.new).on ≡ false) }
+    ensures went { Went 3 (Heading (says next.now)) (D.shelf d.old) (D.seen d.old) (D.shelf d.new) (D.seen d.new) }
+    ensures how { MatchResult result (λ _. Copying 3 (says next.now) words.now (D.shelf d.old) (D.seen d.old) (D.shelf d.new) (D.seen d.new)) (λ _. (D.shelf d.new).on ≡ false) }
 {
     for p in 0..3 {
         let at = next.members.at(p);
@@ -28,13 +28,13 @@ fn write_copies<D: Disks>(d: &mut D, next: &Superblock, words: &[u64]) -> Result
 
 // A superblock to its three members, for good. The words are made in `words`.
 pub fn head<D: Disks>(d: &mut D, next: &Superblock, words: &mut [u64]) -> Result<(), Gone>
-    requires left { 4 ≤ (shelf d.old).left }
-    requires size { 0 < (shelf d.old).sectors }
+    requires left { 4 ≤ (D.shelf d.old).left }
+    requires size { 0 < (D.shelf d.old).sectors }
     requires proper { Proper (says next.now) }
-    requires employed { (p : ℕ) → p < 3 → Employed (shelf d.old) (slice_index (says next.now).members p) }
+    requires employed { (p : ℕ) → p < 3 → Employed (D.shelf d.old) (slice_index (says next.now).members p) }
     requires lent { length words.old ≡ 64 }
-    ensures went { Went 4 (Heading (says next.now)) (shelf d.old) (seen d.old) (shelf d.new) (seen d.new) }
-    ensures how { MatchResult result (λ _. Headed (says next.now) (shelf d.new)) (λ _. (shelf d.new).on ≡ false) }
+    ensures went { Went 4 (Heading (says next.now)) (D.shelf d.old) (D.seen d.old) (D.shelf d.new) (D.seen d.new) }
+    ensures how { MatchResult result (λ _. Headed (says next.now) (D.shelf d.new)) (λ _. (D.shelf d.new).on ≡ false) }
 {
     next.encode(words);
     write_copies(d, next, words)?;
@@ -43,13 +43,13 @@ pub fn head<D: Disks>(d: &mut D, next: &Superblock, words: &mut [u64]) -> Result
 
 // What was staged lasts, and then the next superblock is in force.
 pub fn commit<D: Disks>(d: &mut D, next: &Superblock, words: &mut [u64]) -> Result<(), Gone>
-    requires left { 5 ≤ (shelf d.old).left }
-    requires size { 0 < (shelf d.old).sectors }
+    requires left { 5 ≤ (D.shelf d.old).left }
+    requires size { 0 < (D.shelf d.old).sectors }
     requires proper { Proper (says next.now) }
-    requires employed { (p : ℕ) → p < 3 → Employed (shelf d.old) (slice_index (says next.now).members p) }
+    requires employed { (p : ℕ) → p < 3 → Employed (D.shelf d.old) (slice_index (says next.now).members p) }
     requires lent { length words.old ≡ 64 }
-    ensures went { Went 5 (Heading (says next.now)) (shelf d.old) (seen d.old) (shelf d.new) (seen d.new) }
-    ensures how { MatchResult result (λ _. Committed (says next.now) (shelf d.old) (shelf d.new)) (λ _. Interrupted (says next.now) (shelf d.old) (shelf d.new)) }
+    ensures went { Went 5 (Heading (says next.now)) (D.shelf d.old) (D.seen d.old) (D.shelf d.new) (D.seen d.new) }
+    ensures how { MatchResult result (λ _. Committed (says next.now) (D.shelf d.old) (D.shelf d.new)) (λ _. Interrupted (says next.now) (D.shelf d.old) (D.shelf d.new)) }
 {
     sync_all(d)?;
     head(d, next, words)

@@ -20,12 +20,12 @@ pub fn slot_of(generation: u64) -> u64
 
 // What a disk has at one sector, to another; nothing is done where it is dead.
 fn carry<D: Disks>(d: &mut D, at: u32, from: u64, to: u64, words: &mut [u64]) -> Result<(), Gone>
-    requires left { 2 ≤ (shelf d.old).left }
-    requires place { (from < (shelf d.old).sectors) × (to < (shelf d.old).sectors) }
-    requires employed { Employed (shelf d.old) at }
+    requires left { 2 ≤ (D.shelf d.old).left }
+    requires place { (from < (D.shelf d.old).sectors) × (to < (D.shelf d.old).sectors) }
+    requires employed { Employed (D.shelf d.old) at }
     requires lent { length words.old ≡ 64 }
-    ensures went { Went 2 (Only at to) (shelf d.old) (seen d.old) (shelf d.new) (seen d.new) }
-    ensures how { MatchResult result (λ _. ((shelf d.new).on ≡ true) × Moved at from to (shelf d.old) (shelf d.new)) (λ _. (shelf d.new).on ≡ false) }
+    ensures went { Went 2 (Only at to) (D.shelf d.old) (D.seen d.old) (D.shelf d.new) (D.seen d.new) }
+    ensures how { MatchResult result (λ _. ((D.shelf d.new).on ≡ true) × Moved at from to (D.shelf d.old) (D.shelf d.new)) (λ _. (D.shelf d.new).on ≡ false) }
 {
     if read_sector(d, at, from, words)? {
         let _ = write_sector(d, at, to, words)?;
@@ -41,12 +41,12 @@ fn carry_all<D: Disks>(
     to: u64,
     words: &mut [u64],
 ) -> Result<(), Gone>
-    requires left { 24 ≤ (shelf d.old).left }
-    requires place { (from < (shelf d.old).sectors) × ((to < (shelf d.old).sectors) × ((from ≢ to))) }
-    requires employed { (p : ℕ) → p < length (listed members.now.count members.now.disks) → Employed (shelf d.old) (slice_index (listed members.now.count members.now.disks) p) }
+    requires left { 24 ≤ (D.shelf d.old).left }
+    requires place { (from < (D.shelf d.old).sectors) × ((to < (D.shelf d.old).sectors) × ((from ≢ to))) }
+    requires employed { (p : ℕ) → p < length (listed members.now.count members.now.disks) → Employed (D.shelf d.old) (slice_index (listed members.now.count members.now.disks) p) }
     requires lent { length words.old ≡ 64 }
-    ensures went { Went 24 (Level to) (shelf d.old) (seen d.old) (shelf d.new) (seen d.new) }
-    ensures how { MatchResult result (λ _. Moving (length (listed members.now.count members.now.disks)) (listed members.now.count members.now.disks) from to (shelf d.old) (seen d.old) (shelf d.new) (seen d.new)) (λ _. (shelf d.new).on ≡ false) }
+    ensures went { Went 24 (Level to) (D.shelf d.old) (D.seen d.old) (D.shelf d.new) (D.seen d.new) }
+    ensures how { MatchResult result (λ _. Moving (length (listed members.now.count members.now.disks)) (listed members.now.count members.now.disks) from to (D.shelf d.old) (D.seen d.old) (D.shelf d.new) (D.seen d.new)) (λ _. (D.shelf d.new).on ≡ false) }
 {
     for p in 0..members.many() {
         let at = members.at(p);
@@ -57,12 +57,12 @@ fn carry_all<D: Disks>(
 
 // The journalled stripe to its place, on all that hold it, also on the disk that is being filled.
 pub fn bring<D: Disks>(d: &mut D, b: &Superblock, words: &mut [u64]) -> Result<(), Gone>
-    requires left { 26 ≤ (shelf d.old).left }
-    requires size { (128 ≤ (shelf d.old).sectors) × (((shelf d.old).sectors ≤ 4294967296) × (Inside (says b.now).journal (shelf d.old).sectors)) }
-    requires employed { (e p r : ℕ) → Holds (says b.now) e p r → Employed (shelf d.old) e }
+    requires left { 26 ≤ (D.shelf d.old).left }
+    requires size { (128 ≤ (D.shelf d.old).sectors) × (((D.shelf d.old).sectors ≤ 4294967296) × (Inside (says b.now).journal (D.shelf d.old).sectors)) }
+    requires employed { (e p r : ℕ) → Holds (says b.now) e p r → Employed (D.shelf d.old) e }
     requires lent { length words.old ≡ 64 }
-    ensures went { Went 26 (Across (says b.now)) (shelf d.old) (seen d.old) (shelf d.new) (seen d.new) }
-    ensures how { MatchResult result (λ _. ((shelf d.old).on ≡ true → (shelf d.new).on ≡ true) × Brought (says b.now) (shelf d.old) (shelf d.new)) (λ _. (shelf d.new).on ≡ false) }
+    ensures went { Went 26 (Across (says b.now)) (D.shelf d.old) (D.seen d.old) (D.shelf d.new) (D.seen d.new) }
+    ensures how { MatchResult result (λ _. ((D.shelf d.old).on ≡ true → (D.shelf d.new).on ≡ true) × Brought (says b.now) (D.shelf d.old) (D.shelf d.new)) (λ _. (D.shelf d.new).on ≡ false) }
 {
     let Some(r) = b.journal else {
         return Ok(());

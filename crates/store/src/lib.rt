@@ -89,28 +89,28 @@ pub trait World: Disks {
     fn more(&self) -> bool;
     // so often may the disks be asked from now on
     fn allow(&mut self, asks: u64)
-        ensures { (shelf self.new ≡ allowed asks (shelf self.old)) × (seen self.new ≡ seen self.old) };
+        ensures { (Self.shelf self.new ≡ allowed asks (Self.shelf self.old)) × (Self.seen self.new ≡ Self.seen self.old) };
     // The power comes back. Nothing is known of what memory holds.
     fn back(&mut self, room: &mut [u64])
-        requires { (shelf self.old).on ≡ false }
-        ensures { Back (shelf self.old) (Cut ∷ seen self.old) (shelf self.new) (seen self.new) };
+        requires { (Self.shelf self.old).on ≡ false }
+        ensures { Back (Self.shelf self.old) (Cut ∷ Self.seen self.old) (Self.shelf self.new) (Self.seen self.new) };
     // what is asked next, if anything, under a tag; what is to be written stands in `words`
     fn next(&mut self, words: &mut [u64]) -> Option<(u32, Ask)>
-        ensures { (shelf self.new ≡ shelf self.old) × (seen self.new ≡ seen self.old) };
+        ensures { (Self.shelf self.new ≡ Self.shelf self.old) × (Self.seen self.new ≡ Self.seen self.old) };
     // Something was asked, or refused (`why` is not 0); a turn has passed; something is told. What these require is the promise:
     // all that was seen so far, with this, can be explained. One that notes it in memory may answer false for want of room:
     // then all is over.
     fn said(&mut self, tag: u32, a: Ask, words: &[u64], why: u32) -> bool
-        requires { (Explained can (shelf self.old).sectors (said why tag a words.now ∷ seen self.old)) × (length words.now ≡ 64) }
-        ensures { ((T result → seen self.new ≡ said why tag a words.now ∷ seen self.old)) × (((T result → why ≡ 0 → shelf self.new ≡ takes_in a (shelf self.old))) × ((T result → 0 < why → shelf self.new ≡ shelf self.old))) };
+        requires { (Explained can (Self.shelf self.old).sectors (said why tag a words.now ∷ Self.seen self.old)) × (length words.now ≡ 64) }
+        ensures { ((T result → Self.seen self.new ≡ said why tag a words.now ∷ Self.seen self.old)) × (((T result → why ≡ 0 → Self.shelf self.new ≡ takes_in a (Self.shelf self.old))) × ((T result → 0 < why → Self.shelf self.new ≡ Self.shelf self.old))) };
 
     fn turned(&mut self) -> bool
-        requires { Explained can (shelf self.old).sectors (Turned ∷ seen self.old) }
-        ensures { ((T result → seen self.new ≡ Turned ∷ seen self.old)) × (shelf self.new ≡ shelf self.old) };
+        requires { Explained can (Self.shelf self.old).sectors (Turned ∷ Self.seen self.old) }
+        ensures { ((T result → Self.seen self.new ≡ Turned ∷ Self.seen self.old)) × (Self.shelf self.new ≡ Self.shelf self.old) };
 
     fn told(&mut self, tag: u32, a: Ask, r: Reply, words: &[u64]) -> bool
-        requires { (Explained can (shelf self.old).sectors (Told tag a r words.now ∷ seen self.old)) × (length words.now ≡ 64) }
-        ensures { ((T result → seen self.new ≡ Told tag a r words.now ∷ seen self.old)) × ((T result → shelf self.new ≡ told_of a r (shelf self.old))) };
+        requires { (Explained can (Self.shelf self.old).sectors (Told tag a r words.now ∷ Self.seen self.old)) × (length words.now ≡ 64) }
+        ensures { ((T result → Self.seen self.new ≡ Told tag a r words.now ∷ Self.seen self.old)) × ((T result → Self.shelf self.new ≡ told_of a r (Self.shelf self.old))) };
 }
 
 // The power has gone: what a function over the disks ends with when one answers Dark.
@@ -135,13 +135,13 @@ pub struct Store {
 
 // The store comes up: what was kept is found, and nothing is asked yet. It may be cut here too, as often as it likes.
 pub fn open<D: Disks>(d: &mut D, room: &mut [u64]) -> Result<Store, Gone>
-    requires soon { 65536 ≤ (shelf d.old).left }
+    requires soon { 65536 ≤ (D.shelf d.old).left }
     requires lent { length room.old ≡ 65536 }
-    requires back { Recoverable (shelf d.old) (seen d.old) }
-    ensures only { is_ok result ≡ false → (shelf d.new).on ≡ false }
-    ensures opened { Opened result room.new (shelf d.new) (seen d.new) }
-    ensures ticked { ticks (seen d.new) ≡ ticks (seen d.old) }
-    ensures spent { (shelf d.old).left ≤ (shelf d.new).left + 46 }
+    requires back { Recoverable (D.shelf d.old) (D.seen d.old) }
+    ensures only { is_ok result ≡ false → (D.shelf d.new).on ≡ false }
+    ensures opened { Opened result room.new (D.shelf d.new) (D.seen d.new) }
+    ensures ticked { ticks (D.seen d.new) ≡ ticks (D.seen d.old) }
+    ensures spent { (D.shelf d.old).left ≤ (D.shelf d.new).left + 46 }
 {
     let mut best = [0u64; 64];
     let superblock = come_up(d, &mut best, &mut room[0..64])?;
@@ -176,13 +176,13 @@ impl Store {
         room: &mut [u64],
         words: &mut [u64],
     ) -> Result<Option<Ended>, Gone>
-        requires soon { 256 ≤ (shelf d.old).left }
+        requires soon { 256 ≤ (D.shelf d.old).left }
         requires lent { (length room.old ≡ 65536) × (length words.old ≡ 64) }
-        requires held { Serving self.old room.old (shelf d.old) (seen d.old) }
-        requires early { ticks (seen d.old) < 2 ^ 62 }
-        ensures only { is_ok result ≡ false → (shelf d.new).on ≡ false }
-        ensures after { AfterTurn result words.new self.new room.new (shelf d.new) (seen d.new) }
-        ensures ticked { ticks (seen d.new) ≡ ticks (seen d.old) }
+        requires held { Serving self.old room.old (D.shelf d.old) (D.seen d.old) }
+        requires early { ticks (D.seen d.old) < 2 ^ 62 }
+        ensures only { is_ok result ≡ false → (D.shelf d.new).on ≡ false }
+        ensures after { AfterTurn result words.new self.new room.new (D.shelf d.new) (D.seen d.new) }
+        ensures ticked { ticks (D.seen d.new) ≡ ticks (D.seen d.old) }
     {
         let Some((tag, ask)) = self.tags.due() else {
             return Ok(None);
@@ -216,10 +216,10 @@ pub fn serve<W: Disks + World>(
 ) -> Stop
     requires lent { length words.old ≡ 64 }
     requires roomy { length room.old ≡ 65536 }
-    requires held { Serving s.old room.old (shelf w.old) (seen w.old) }
-    requires early { ticks (seen w.old) + turns < 2 ^ 62 }
-    ensures stops { Stopped result (shelf w.new) (seen w.new) }
-    ensures ticked { result ≡ Stop.Dark → ticks (seen w.new) ≤ ticks (seen w.old) + turns }
+    requires held { Serving s.old room.old (W.shelf w.old) (W.seen w.old) }
+    requires early { ticks (W.seen w.old) + turns < 2 ^ 62 }
+    ensures stops { Stopped result (W.shelf w.new) (W.seen w.new) }
+    ensures ticked { result ≡ Stop.Dark → ticks (W.seen w.new) ≤ ticks (W.seen w.old) + turns }
 {
     let mut t: u64 = 0;
     while t < turns && w.more() {
@@ -258,8 +258,8 @@ pub fn years<W: Disks + World>(
     lives: u64,
     turns: u64,
 )
-    requires starts { AtStart (shelf w.old) }
-    requires unseen { seen w.old ≡ [] }
+    requires starts { AtStart (W.shelf w.old) }
+    requires unseen { W.seen w.old ≡ [] }
     requires lent { (length room.old ≡ 65536) × (length words.old ≡ 64) }
     requires few { (lives < 1048576) × (turns < 1099511627776) }
 {

@@ -24,11 +24,11 @@ fn keep_newer(best: &mut [u64], other: &[u64])
 
 // The newest sector 0 of the sixteen disks, in `best`.
 fn look<D: Disks>(d: &mut D, best: &mut [u64], other: &mut [u64]) -> Result<(), Gone>
-    requires left { 16 ≤ (shelf d.old).left }
-    requires size { 0 < (shelf d.old).sectors }
+    requires left { 16 ≤ (D.shelf d.old).left }
+    requires size { 0 < (D.shelf d.old).sectors }
     requires lent { (length best.old ≡ 64) × (length other.old ≡ 64) }
-    ensures went { Went 16 Nowhere (shelf d.old) (seen d.old) (shelf d.new) (seen d.new) }
-    ensures how { MatchResult result (λ _. Looked 16 best.new (shelf d.old) (seen d.old) (shelf d.new) (seen d.new)) (λ _. (shelf d.new).on ≡ false) }
+    ensures went { Went 16 Nowhere (D.shelf d.old) (D.seen d.old) (D.shelf d.new) (D.seen d.new) }
+    ensures how { MatchResult result (λ _. Looked 16 best.new (D.shelf d.old) (D.seen d.old) (D.shelf d.new) (D.seen d.new)) (λ _. (D.shelf d.new).on ≡ false) }
 {
     best[0] = 0;
     for i in 0..16u32 {
@@ -41,12 +41,12 @@ fn look<D: Disks>(d: &mut D, best: &mut [u64], other: &mut [u64]) -> Result<(), 
 
 // It is found, and written again to its three members.
 fn recover<D: Disks>(d: &mut D, best: &mut [u64], other: &mut [u64]) -> Result<Superblock, Gone>
-    requires left { 20 ≤ (shelf d.old).left }
+    requires left { 20 ≤ (D.shelf d.old).left }
     requires lent { (length best.old ≡ 64) × (length other.old ≡ 64) }
-    requires held { Open (shelf d.old) }
-    ensures deaths { Deaths (shelf d.old) (seen d.old) (shelf d.new) (seen d.new) }
-    ensures spent { (shelf d.old).left ≤ (shelf d.new).left + 20 }
-    ensures how { MatchResult result (λ b. Recovered (says b) (shelf d.old) (shelf d.new) × (b.members.dead ≡ Nobody)) (λ _. Lapsed (shelf d.old) (shelf d.new)) }
+    requires held { Open (D.shelf d.old) }
+    ensures deaths { Deaths (D.shelf d.old) (D.seen d.old) (D.shelf d.new) (D.seen d.new) }
+    ensures spent { (D.shelf d.old).left ≤ (D.shelf d.new).left + 20 }
+    ensures how { MatchResult result (λ b. Recovered (says b) (D.shelf d.old) (D.shelf d.new) × (b.members.dead ≡ Nobody)) (λ _. Lapsed (D.shelf d.old) (D.shelf d.new)) }
 {
     look(d, best, other)?;
     let found = Superblock::decode(best);
@@ -56,12 +56,12 @@ fn recover<D: Disks>(d: &mut D, best: &mut [u64], other: &mut [u64]) -> Result<S
 
 // All that coming up does with the disks.
 pub fn come_up<D: Disks>(d: &mut D, best: &mut [u64], other: &mut [u64]) -> Result<Superblock, Gone>
-    requires left { 46 ≤ (shelf d.old).left }
+    requires left { 46 ≤ (D.shelf d.old).left }
     requires lent { (length best.old ≡ 64) × (length other.old ≡ 64) }
-    requires held { Open (shelf d.old) }
-    ensures deaths { Deaths (shelf d.old) (seen d.old) (shelf d.new) (seen d.new) }
-    ensures spent { (shelf d.old).left ≤ (shelf d.new).left + 46 }
-    ensures how { MatchResult result (λ b. Up (says b) (shelf d.old) (shelf d.new) × (b.members.dead ≡ Nobody)) (λ _. Down (shelf d.old) (shelf d.new)) }
+    requires held { Open (D.shelf d.old) }
+    ensures deaths { Deaths (D.shelf d.old) (D.seen d.old) (D.shelf d.new) (D.seen d.new) }
+    ensures spent { (D.shelf d.old).left ≤ (D.shelf d.new).left + 46 }
+    ensures how { MatchResult result (λ b. Up (says b) (D.shelf d.old) (D.shelf d.new) × (b.members.dead ≡ Nobody)) (λ _. Down (D.shelf d.old) (D.shelf d.new)) }
 {
     let found = recover(d, best, other)?;
     bring(d, &found, best)?;

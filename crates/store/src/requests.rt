@@ -57,14 +57,14 @@ impl Store {
         a: Ask,
         words: &mut [u64],
     ) -> Result<Reply, Gone>
-        requires soon { 256 ≤ (shelf d.old).left }
+        requires soon { 256 ≤ (D.shelf d.old).left }
         requires lent { (length room.old ≡ 65536) × (length words.old ≡ 64) }
-        requires held { Serving self.old room.old (shelf d.old) (seen d.old) }
-        requires early { ticks (seen d.old) < 2 ^ 62 }
+        requires held { Serving self.old room.old (D.shelf d.old) (D.seen d.old) }
+        requires early { ticks (D.seen d.old) < 2 ^ 62 }
         requires taken { (tag < 8) × (at self.old.tags.asked tag ≡ Some a) }
-        ensures deaths { Deaths (shelf d.old) (seen d.old) (shelf d.new) (seen d.new) }
+        ensures deaths { Deaths (D.shelf d.old) (D.seen d.old) (D.shelf d.new) (D.seen d.new) }
         ensures same { (self.new.tags ≡ self.old.tags) × (((t : ℕ) → t < 8 → column t room.new ≡ column t room.old)) }
-        ensures how { MatchResult result (λ reply. (v : Serving self.old room.old (shelf d.old) (seen d.old)) → Performed a reply tag words.new self.new v.h (shelf d.new) (seen d.new)) (λ _. Lost (shelf d.new) (seen d.new)) }
+        ensures how { MatchResult result (λ reply. (v : Serving self.old room.old (D.shelf d.old) (D.seen d.old)) → Performed a reply tag words.new self.new v.h (D.shelf d.new) (D.seen d.new)) (λ _. Lost (D.shelf d.new) (D.seen d.new)) }
     {
         let end = 512 + 64 * self.superblock.members.many();
         match a {

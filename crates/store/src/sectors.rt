@@ -24,14 +24,14 @@ pub fn read<D: Disks>(
     into: &mut [u64],
     columns: &mut [u64],
 ) -> Result<(), Gone>
-    requires left { 1 + length (listed b.old.members.count b.old.members.disks) ≤ (shelf d.old).left }
-    requires size { (n ≡ (shelf d.old).sectors) × (s < (length (listed b.old.members.count b.old.members.disks) - 2) * (n - 64)) }
-    requires ready { (c : Columns) × Ready (shelf d.old) (says b.old) c }
-    requires marks { MarksTrue (shelf d.old) (listed b.old.members.count b.old.members.disks) b.old.members.dead }
+    requires left { 1 + length (listed b.old.members.count b.old.members.disks) ≤ (D.shelf d.old).left }
+    requires size { (n ≡ (D.shelf d.old).sectors) × (s < (length (listed b.old.members.count b.old.members.disks) - 2) * (n - 64)) }
+    requires ready { (c : Columns) × Ready (D.shelf d.old) (says b.old) c }
+    requires marks { MarksTrue (D.shelf d.old) (listed b.old.members.count b.old.members.disks) b.old.members.dead }
     requires lent { (length columns.old ≡ 64 * length (listed b.old.members.count b.old.members.disks)) × (length into.old ≡ 64) }
-    ensures went { Went (1 + length (listed b.old.members.count b.old.members.disks)) Nowhere (shelf d.old) (seen d.old) (shelf d.new) (seen d.new) }
-    ensures same { (says b.new ≡ says b.old) × (MarksTrue (shelf d.new) (listed b.new.members.count b.new.members.disks) b.new.members.dead) }
-    ensures how { MatchResult result (λ _. Fetched n s into.new (says b.old) (shelf d.old) (shelf d.new)) (λ _. (shelf d.new).on ≡ false) }
+    ensures went { Went (1 + length (listed b.old.members.count b.old.members.disks)) Nowhere (D.shelf d.old) (D.seen d.old) (D.shelf d.new) (D.seen d.new) }
+    ensures same { (says b.new ≡ says b.old) × (MarksTrue (D.shelf d.new) (listed b.new.members.count b.new.members.disks) b.new.members.dead) }
+    ensures how { MatchResult result (λ _. Fetched n s into.new (says b.old) (D.shelf d.old) (D.shelf d.new)) (λ _. (D.shelf d.new).on ≡ false) }
 {
     let at = locate(s, n - 64);
     let r = at.stripe;
@@ -49,15 +49,15 @@ pub fn write<D: Disks>(
     words: &[u64],
     columns: &mut [u64],
 ) -> Result<(), Gone>
-    requires left { 2 * length (listed b.old.members.count b.old.members.disks) + 2 * extra b.old.rebuild + 8 ≤ (shelf d.old).left }
-    requires size { (n ≡ (shelf d.old).sectors) × (s < (length (listed b.old.members.count b.old.members.disks) - 2) * (n - 64)) }
-    requires ready { (c : Columns) × (Ready (shelf d.old) (says b.old) c × Coded (length (listed b.old.members.count b.old.members.disks)) c) }
-    requires marks { MarksTrue (shelf d.old) (listed b.old.members.count b.old.members.disks) b.old.members.dead }
+    requires left { 2 * length (listed b.old.members.count b.old.members.disks) + 2 * extra b.old.rebuild + 8 ≤ (D.shelf d.old).left }
+    requires size { (n ≡ (D.shelf d.old).sectors) × (s < (length (listed b.old.members.count b.old.members.disks) - 2) * (n - 64)) }
+    requires ready { (c : Columns) × (Ready (D.shelf d.old) (says b.old) c × Coded (length (listed b.old.members.count b.old.members.disks)) c) }
+    requires marks { MarksTrue (D.shelf d.old) (listed b.old.members.count b.old.members.disks) b.old.members.dead }
     requires few { b.old.generation + 1 < 2 ^ 64 }
     requires lent { (length columns.old ≡ 64 * length (listed b.old.members.count b.old.members.disks)) × (length words.now ≡ 64) }
-    ensures deaths { Deaths (shelf d.old) (seen d.old) (shelf d.new) (seen d.new) }
-    ensures spent { (shelf d.old).left ≤ (shelf d.new).left + (2 * length (listed b.old.members.count b.old.members.disks) + 2 * extra b.old.rebuild + 8) }
-    ensures how { MatchResult result (λ _. (says b.new ≡ journalling (says b.old) (stripe_of (n - 64) s)) × MarksTrue (shelf d.new) (listed b.new.members.count b.new.members.disks) b.new.members.dead × Saved n s words.now (says b.old) (shelf d.old) (shelf d.new)) (λ _. Unsaved n s words.now (says b.old) (shelf d.old) (shelf d.new)) }
+    ensures deaths { Deaths (D.shelf d.old) (D.seen d.old) (D.shelf d.new) (D.seen d.new) }
+    ensures spent { (D.shelf d.old).left ≤ (D.shelf d.new).left + (2 * length (listed b.old.members.count b.old.members.disks) + 2 * extra b.old.rebuild + 8) }
+    ensures how { MatchResult result (λ _. (says b.new ≡ journalling (says b.old) (stripe_of (n - 64) s)) × MarksTrue (D.shelf d.new) (listed b.new.members.count b.new.members.disks) b.new.members.dead × Saved n s words.now (says b.old) (D.shelf d.old) (D.shelf d.new)) (λ _. Unsaved n s words.now (says b.old) (D.shelf d.old) (D.shelf d.new)) }
 {
     let at = locate(s, n - 64);
     let r = at.stripe;

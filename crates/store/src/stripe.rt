@@ -25,12 +25,12 @@ fn fetch<D: Disks>(
     s: u64,
     into: &mut [u64],
 ) -> Result<bool, Gone>
-    requires left { 0 < (shelf d.old).left }
-    requires place { (p < length (listed members.now.count members.now.disks)) × (s < (shelf d.old).sectors) }
-    requires serving { Serving (shelf d.old) (listed members.now.count members.now.disks) members.now.dead }
+    requires left { 0 < (D.shelf d.old).left }
+    requires place { (p < length (listed members.now.count members.now.disks)) × (s < (D.shelf d.old).sectors) }
+    requires serving { Serving (D.shelf d.old) (listed members.now.count members.now.disks) members.now.dead }
     requires lent { length into.old ≡ 64 }
-    ensures went { Went 1 Nowhere (shelf d.old) (seen d.old) (shelf d.new) (seen d.new) }
-    ensures how { MatchResult result (λ lives. Answered (slice_index (listed members.now.count members.now.disks) p) s into.new lives (shelf d.old) (shelf d.new)) (λ _. (shelf d.new).on ≡ false) }
+    ensures went { Went 1 Nowhere (D.shelf d.old) (D.seen d.old) (D.shelf d.new) (D.seen d.new) }
+    ensures how { MatchResult result (λ lives. Answered (slice_index (listed members.now.count members.now.disks) p) s into.new lives (D.shelf d.old) (D.shelf d.new)) (λ _. (D.shelf d.new).on ≡ false) }
 {
     if members.is_marked(p) {
         return Ok(false);
@@ -47,12 +47,12 @@ pub fn load<D: Disks>(
     r: u64,
     stripe: &mut [u64],
 ) -> Result<Missing, Gone>
-    requires left { length (listed members.now.count members.now.disks) ≤ (shelf d.old).left }
-    requires size { s < (shelf d.old).sectors }
-    requires serving { Serving (shelf d.old) (listed members.now.count members.now.disks) members.now.dead }
+    requires left { length (listed members.now.count members.now.disks) ≤ (D.shelf d.old).left }
+    requires size { s < (D.shelf d.old).sectors }
+    requires serving { Serving (D.shelf d.old) (listed members.now.count members.now.disks) members.now.dead }
     requires lent { length stripe.old ≡ 64 * length (listed members.now.count members.now.disks) }
-    ensures went { Went (length (listed members.now.count members.now.disks)) Nowhere (shelf d.old) (seen d.old) (shelf d.new) (seen d.new) }
-    ensures how { MatchResult result (λ missing. Loaded missing (listed members.now.count members.now.disks) s r stripe.new (shelf d.old) (shelf d.new)) (λ _. (shelf d.new).on ≡ false) }
+    ensures went { Went (length (listed members.now.count members.now.disks)) Nowhere (D.shelf d.old) (D.seen d.old) (D.shelf d.new) (D.seen d.new) }
+    ensures how { MatchResult result (λ missing. Loaded missing (listed members.now.count members.now.disks) s r stripe.new (D.shelf d.old) (D.shelf d.new)) (λ _. (D.shelf d.new).on ≡ false) }
 {
     let k = members.many();
     let mut missing = Missing::Nothing;
@@ -76,12 +76,12 @@ pub fn read_column<D: Disks>(
     into: &mut [u64],
     stripe: &mut [u64],
 ) -> Result<Missing, Gone>
-    requires left { 1 + length (listed members.now.count members.now.disks) ≤ (shelf d.old).left }
-    requires size { (s < (shelf d.old).sectors) × (i < length (listed members.now.count members.now.disks)) }
-    requires serving { Serving (shelf d.old) (listed members.now.count members.now.disks) members.now.dead }
+    requires left { 1 + length (listed members.now.count members.now.disks) ≤ (D.shelf d.old).left }
+    requires size { (s < (D.shelf d.old).sectors) × (i < length (listed members.now.count members.now.disks)) }
+    requires serving { Serving (D.shelf d.old) (listed members.now.count members.now.disks) members.now.dead }
     requires lent { (length stripe.old ≡ 64 * length (listed members.now.count members.now.disks)) × (length into.old ≡ 64) }
-    ensures went { Went (1 + length (listed members.now.count members.now.disks)) Nowhere (shelf d.old) (seen d.old) (shelf d.new) (seen d.new) }
-    ensures how { MatchResult result (λ missing. Read missing (listed members.now.count members.now.disks) s r i into.new (shelf d.old) (shelf d.new)) (λ _. (shelf d.new).on ≡ false) }
+    ensures went { Went (1 + length (listed members.now.count members.now.disks)) Nowhere (D.shelf d.old) (D.seen d.old) (D.shelf d.new) (D.seen d.new) }
+    ensures how { MatchResult result (λ missing. Read missing (listed members.now.count members.now.disks) s r i into.new (D.shelf d.old) (D.shelf d.new)) (λ _. (D.shelf d.new).on ≡ false) }
 {
     let p = place_of(i, r);
     if fetch(d, members, p, s, into)? {
@@ -111,12 +111,12 @@ pub fn learn(members: &mut Members, missing: Missing, r: u64)
 
 // Words to sector s of the member at place p; one that is known to be dead is not asked.
 fn lay<D: Disks>(d: &mut D, members: &Members, p: usize, s: u64, words: &[u64]) -> Result<(), Gone>
-    requires left { 0 < (shelf d.old).left }
-    requires place { (p < length (listed members.now.count members.now.disks)) × (s < (shelf d.old).sectors) }
-    requires serving { Serving (shelf d.old) (listed members.now.count members.now.disks) members.now.dead }
+    requires left { 0 < (D.shelf d.old).left }
+    requires place { (p < length (listed members.now.count members.now.disks)) × (s < (D.shelf d.old).sectors) }
+    requires serving { Serving (D.shelf d.old) (listed members.now.count members.now.disks) members.now.dead }
     requires lent { length words.now ≡ 64 }
-    ensures went { Went 1 (Here (slice_index (listed members.now.count members.now.disks) p) s words.now) (shelf d.old) (seen d.old) (shelf d.new) (seen d.new) }
-    ensures how { MatchResult result (λ _. ((shelf d.old).on ≡ true → (shelf d.new).on ≡ true) × Shows (shelf d.new) (slice_index (listed members.now.count members.now.disks) p) s words.now) (λ _. (shelf d.new).on ≡ false) }
+    ensures went { Went 1 (Here (slice_index (listed members.now.count members.now.disks) p) s words.now) (D.shelf d.old) (D.seen d.old) (D.shelf d.new) (D.seen d.new) }
+    ensures how { MatchResult result (λ _. ((D.shelf d.old).on ≡ true → (D.shelf d.new).on ≡ true) × Shows (D.shelf d.new) (slice_index (listed members.now.count members.now.disks) p) s words.now) (λ _. (D.shelf d.new).on ≡ false) }
 {
     if !members.is_marked(p) {
         let at = members.at(p);
@@ -134,12 +134,12 @@ pub fn store_members<D: Disks>(
     stripe: &[u64],
     which: &Selection,
 ) -> Result<(), Gone>
-    requires left { count (length (listed members.now.count members.now.disks)) (chosen which.now.columns) ≤ (shelf d.old).left }
-    requires size { s < (shelf d.old).sectors }
-    requires serving { Serving (shelf d.old) (listed members.now.count members.now.disks) members.now.dead }
+    requires left { count (length (listed members.now.count members.now.disks)) (chosen which.now.columns) ≤ (D.shelf d.old).left }
+    requires size { s < (D.shelf d.old).sectors }
+    requires serving { Serving (D.shelf d.old) (listed members.now.count members.now.disks) members.now.dead }
     requires lent { length stripe.now ≡ 64 * length (listed members.now.count members.now.disks) }
-    ensures went { Went (count (length (listed members.now.count members.now.disks)) (chosen which.now.columns)) (Spread (chosen which.now.columns) (listed members.now.count members.now.disks) s r (held (length (listed members.now.count members.now.disks)) stripe.now)) (shelf d.old) (seen d.old) (shelf d.new) (seen d.new) }
-    ensures how { MatchResult result (λ _. Storing (length (listed members.now.count members.now.disks)) (chosen which.now.columns) (listed members.now.count members.now.disks) s r (held (length (listed members.now.count members.now.disks)) stripe.now) (shelf d.old) (seen d.old) (shelf d.new) (seen d.new)) (λ _. (shelf d.new).on ≡ false) }
+    ensures went { Went (count (length (listed members.now.count members.now.disks)) (chosen which.now.columns)) (Spread (chosen which.now.columns) (listed members.now.count members.now.disks) s r (held (length (listed members.now.count members.now.disks)) stripe.now)) (D.shelf d.old) (D.seen d.old) (D.shelf d.new) (D.seen d.new) }
+    ensures how { MatchResult result (λ _. Storing (length (listed members.now.count members.now.disks)) (chosen which.now.columns) (listed members.now.count members.now.disks) s r (held (length (listed members.now.count members.now.disks)) stripe.now) (D.shelf d.old) (D.seen d.old) (D.shelf d.new) (D.seen d.new)) (λ _. (D.shelf d.new).on ≡ false) }
 {
     for i in 0..members.many() {
         if which.has(i) {
@@ -186,12 +186,12 @@ fn write_column<D: Disks>(
     k: usize,
     stripe: &[u64],
 ) -> Result<(), Gone>
-    requires left { 0 < (shelf d.old).left }
-    requires place { (s < (shelf d.old).sectors) × (i < 12) }
-    requires employed { Employed (shelf d.old) at }
+    requires left { 0 < (D.shelf d.old).left }
+    requires place { (s < (D.shelf d.old).sectors) × (i < 12) }
+    requires employed { Employed (D.shelf d.old) at }
     requires lent { length stripe.now ≡ 64 * k }
-    ensures went { Went 1 (Here at s (held k stripe.now i)) (shelf d.old) (seen d.old) (shelf d.new) (seen d.new) }
-    ensures how { MatchResult result (λ _. ((shelf d.new).on ≡ true) × Shows (shelf d.new) at s (held k stripe.now i)) (λ _. (shelf d.new).on ≡ false) }
+    ensures went { Went 1 (Here at s (held k stripe.now i)) (D.shelf d.old) (D.seen d.old) (D.shelf d.new) (D.seen d.new) }
+    ensures how { MatchResult result (λ _. ((D.shelf d.new).on ≡ true) × Shows (D.shelf d.new) at s (held k stripe.now i)) (λ _. (D.shelf d.new).on ≡ false) }
 {
     if i < k {
         let _ = write_sector(d, at, s, &stripe[64 * i..64 * i + 64])?;
@@ -210,14 +210,14 @@ pub fn store<D: Disks>(
     stripe: &[u64],
     which: &Selection,
 ) -> Result<(), Gone>
-    requires left { count (length (listed b.now.members.count b.now.members.disks)) (chosen which.now.columns) + extra b.now.rebuild ≤ (shelf d.old).left }
-    requires size { s < (shelf d.old).sectors }
+    requires left { count (length (listed b.now.members.count b.now.members.disks)) (chosen which.now.columns) + extra b.now.rebuild ≤ (D.shelf d.old).left }
+    requires size { s < (D.shelf d.old).sectors }
     requires proper { Proper (says b.now) }
-    requires serving { Serving (shelf d.old) (listed b.now.members.count b.now.members.disks) b.now.members.dead }
-    requires employed { (e p t : ℕ) → Holds (says b.now) e p t → Employed (shelf d.old) e }
+    requires serving { Serving (D.shelf d.old) (listed b.now.members.count b.now.members.disks) b.now.members.dead }
+    requires employed { (e p t : ℕ) → Holds (says b.now) e p t → Employed (D.shelf d.old) e }
     requires lent { length stripe.now ≡ 64 * length (listed b.now.members.count b.now.members.disks) }
-    ensures went { Went (count (length (listed b.now.members.count b.now.members.disks)) (chosen which.now.columns) + extra b.now.rebuild) (Held (chosen which.now.columns) (says b.now) s r) (shelf d.old) (seen d.old) (shelf d.new) (seen d.new) }
-    ensures how { MatchResult result (λ _. ((shelf d.old).on ≡ true → (shelf d.new).on ≡ true) × Stored (chosen which.now.columns) (says b.now) s r (held (length (listed b.now.members.count b.now.members.disks)) stripe.now) (shelf d.new)) (λ _. (shelf d.new).on ≡ false) }
+    ensures went { Went (count (length (listed b.now.members.count b.now.members.disks)) (chosen which.now.columns) + extra b.now.rebuild) (Held (chosen which.now.columns) (says b.now) s r) (D.shelf d.old) (D.seen d.old) (D.shelf d.new) (D.seen d.new) }
+    ensures how { MatchResult result (λ _. ((D.shelf d.old).on ≡ true → (D.shelf d.new).on ≡ true) × Stored (chosen which.now.columns) (says b.now) s r (held (length (listed b.now.members.count b.now.members.disks)) stripe.now) (D.shelf d.new)) (λ _. (D.shelf d.new).on ≡ false) }
 {
     store_members(d, &b.members, s, r, stripe, which)?;
     if let Some(share) = share_of(b, r) {

@@ -5,7 +5,7 @@ use Rattle.store.specs.Between.{ticks, Serving}
 use Rattle.store.proofs.Steps.{explained, explained_same, answered_sectors, told_sectors, serving_same, said_serving, after_some, after_none, ticks_said, ticks_told, ticks_turned}
 use Rattle.store.proofs.Opening.{serving_allowed}
 use Rattle.store.proofs.serve.Goals as goal
-use Rattle.store.proofs.serve.Goals.{in-Some+else-not-said, in-default}
+use Rattle.store.proofs.serve.Goals.{in-Some+else-not-said, in_default}
 
 pub ask-why-requires : goal.ask-why-requires
 ask-why-requires g c = record { lent = search rules; held = (g.W.Disks.shelf c.loop-t.w, (g.W.Disks.seen c.loop-t.w, c.loop-t.invariant.0)) }
@@ -23,14 +23,14 @@ turn-requires g c =
     let same : ticks (g.W.Disks.seen c.match-next.w) ≡ ticks (g.W.Disks.seen c.loop-t.w) =
     elim c.match-next.branch [
       | in-Some+else-not-said w ↦ ap (λ v. ticks (g.W.Disks.seen v)) w.w-is ∙ (ap ticks (w.if-not-said.ensures.0 tt) ∙ (ticks_said w.ask-why.result w.in-Some.tag w.in-Some.a c.next.new.words (g.W.Disks.seen c.next.new.self) ∙ ap ticks c.next.ensures.1))
-      | in-default w ↦ ap (λ v. ticks (g.W.Disks.seen v)) w.w-is ∙ ap ticks c.next.ensures.1
+      | in_default w ↦ ap (λ v. ticks (g.W.Disks.seen v)) w.w-is ∙ ap ticks c.next.ensures.1
     ] in
     let heard : Serving c.match-next.s c.match-next.room (g.W.Disks.shelf c.match-next.w) (g.W.Disks.seen c.match-next.w) =
     elim c.match-next.branch [
       | in-Some+else-not-said w ↦ simp (w.w-is, w.s-is, w.room-is) (said_serving w.ask-why.result w.in-Some.tag w.in-Some.a c.next.new.words
           (w.ask-why.ensures.goes _ _ (serving_same c.loop-t.invariant.0 c.next.ensures.0 c.next.ensures.1))
           (w.if-not-said.ensures.0 tt) (w.if-not-said.ensures.1.0 tt) (w.if-not-said.ensures.1.1 tt))
-      | in-default w ↦ simp (w.w-is, w.s-is, w.room-is) (serving_same c.loop-t.invariant.0 c.next.ensures.0 c.next.ensures.1)
+      | in_default w ↦ simp (w.w-is, w.s-is, w.room-is) (serving_same c.loop-t.invariant.0 c.next.ensures.0 c.next.ensures.1)
     ] in
     record {
       soon = simp c.allow.ensures.0 (omega arith);
@@ -44,7 +44,7 @@ returns-in-Err g c =
     let same : ticks (g.W.Disks.seen c.match-next.w) ≡ ticks (g.W.Disks.seen c.loop-t.w) =
     elim c.match-next.branch [
       | in-Some+else-not-said w ↦ ap (λ v. ticks (g.W.Disks.seen v)) w.w-is ∙ (ap ticks (w.if-not-said.ensures.0 tt) ∙ (ticks_said w.ask-why.result w.in-Some.tag w.in-Some.a c.next.new.words (g.W.Disks.seen c.next.new.self) ∙ ap ticks c.next.ensures.1))
-      | in-default w ↦ ap (λ v. ticks (g.W.Disks.seen v)) w.w-is ∙ ap ticks c.next.ensures.1
+      | in_default w ↦ ap (λ v. ticks (g.W.Disks.seen v)) w.w-is ∙ ap ticks c.next.ensures.1
     ] in
     record {
       stops = c.in-Err.ensures.after;
@@ -65,7 +65,7 @@ loop-t-preserved-else-not-told g c =
     let same : ticks (g.W.Disks.seen c.match-next.w) ≡ ticks (g.W.Disks.seen c.loop-t.w) =
     elim c.match-next.branch [
       | in-Some+else-not-said w ↦ ap (λ v. ticks (g.W.Disks.seen v)) w.w-is ∙ (ap ticks (w.if-not-said.ensures.0 tt) ∙ (ticks_said w.ask-why.result w.in-Some.tag w.in-Some.a c.next.new.words (g.W.Disks.seen c.next.new.self) ∙ ap ticks c.next.ensures.1))
-      | in-default w ↦ ap (λ v. ticks (g.W.Disks.seen v)) w.w-is ∙ ap ticks c.next.ensures.1
+      | in_default w ↦ ap (λ v. ticks (g.W.Disks.seen v)) w.w-is ∙ ap ticks c.next.ensures.1
     ] in
     let telling = after_some c.turn.new.words c.turn.new.self c.turn.new.room (g.W.Disks.shelf c.turn.new.d) (g.W.Disks.seen c.turn.new.d) c.in-Ok.e c.in-Some-e.field-0 c.in-Some-e.is c.in-Ok.ensures.after in
     let turned = c.if-not-turned.ensures.0 tt in
@@ -83,9 +83,9 @@ loop-t-preserved g c =
     let same : ticks (g.W.Disks.seen c.match-next.w) ≡ ticks (g.W.Disks.seen c.loop-t.w) =
     elim c.match-next.branch [
       | in-Some+else-not-said w ↦ ap (λ v. ticks (g.W.Disks.seen v)) w.w-is ∙ (ap ticks (w.if-not-said.ensures.0 tt) ∙ (ticks_said w.ask-why.result w.in-Some.tag w.in-Some.a c.next.new.words (g.W.Disks.seen c.next.new.self) ∙ ap ticks c.next.ensures.1))
-      | in-default w ↦ ap (λ v. ticks (g.W.Disks.seen v)) w.w-is ∙ ap ticks c.next.ensures.1
+      | in_default w ↦ ap (λ v. ticks (g.W.Disks.seen v)) w.w-is ∙ ap ticks c.next.ensures.1
     ] in
-    let quiet = after_none c.turn.new.words c.turn.new.self c.turn.new.room (g.W.Disks.shelf c.turn.new.d) (g.W.Disks.seen c.turn.new.d) c.in-Ok.e c.in-default-e.is c.in-Ok.ensures.after in
+    let quiet = after_none c.turn.new.words c.turn.new.self c.turn.new.room (g.W.Disks.shelf c.turn.new.d) (g.W.Disks.seen c.turn.new.d) c.in-Ok.e c.in_default-e.is c.in-Ok.ensures.after in
     let turned = c.if-not-turned.ensures.0 tt in (
       serving_same quiet c.turned.ensures.1 turned,
       omega (arith, same, ap ticks turned ∙ ticks_turned _, c.in-Ok.ensures.ticked, ap ticks c.allow.ensures.1, c.loop-t.invariant.1),

@@ -20,11 +20,11 @@ returns-then-why-eq0 c =
           let none = not_refused ts _ t a (sym c.refusal-why.ensures ∙ zero) in
           let fits = reaches _ a none.2 in
           let long : 64 * t + 64 ≤ length c.args.room.now = omega (arith, none.0, c.requires.lent.0) in
-          let whole : length c.copy-from-slice.new.self ≡ 64 = omega (arith, ap length c.copy-from-slice.ensures.after, c.requires.lent.1) in
-          let put = written t (64 * t + 64 - 64 * t) c.args.room.now c.copy-from-slice.new.self long whole (omega arith) c.args.words.now c.copy-from-slice.ensures.after in
+          let whole : length c.copy_from_slice.new.self ≡ 64 = omega (arith, ap length c.copy_from_slice.ensures.after, c.requires.lent.1) in
+          let put = written t (64 * t + 64 - 64 * t) c.args.room.now c.copy_from_slice.new.self long whole (omega arith) c.args.words.now c.copy_from_slice.ensures.after in
           let is : c.refusal-why.result ≡ wrong can x.sectors v.h t a = c.refusal-why.ensures ∙ (ap (λ (n : ℕ). refusal_of ts n t a) (sym (size_is v)) ∙ refusal_is v.table t a) in
-          subst (λ (k : ℕ). Serving (record { sectors = c.args.self.now.sectors; superblock = c.args.self.now.superblock; tags = c.note.new.self }) (put_mid (64 * t) (64 * t + 64 - 64 * t) c.args.room.now c.copy-from-slice.new.self) (answered k a x) (said k t a c.args.words.now ∷ es)) (sym zero)
-          (asked_on v t a c.args.words.now (record { sectors = c.args.self.now.sectors; superblock = c.args.self.now.superblock; tags = c.note.new.self }) (put_mid (64 * t) (64 * t + 64 - 64 * t) c.args.room.now c.copy-from-slice.new.self) refl refl
+          subst (λ (k : ℕ). Serving (record { sectors = c.args.self.now.sectors; superblock = c.args.self.now.superblock; tags = c.note.new.self }) (put_mid (64 * t) (64 * t + 64 - 64 * t) c.args.room.now c.copy_from_slice.new.self) (answered k a x) (said k t a c.args.words.now ∷ es)) (sym zero)
+          (asked_on v t a c.args.words.now (record { sectors = c.args.self.now.sectors; superblock = c.args.self.now.superblock; tags = c.note.new.self }) (put_mid (64 * t) (64 * t + 64 - 64 * t) c.args.room.now c.copy_from_slice.new.self) refl refl
           (omega (arith, c.note.ensures.1.1, none.0)) c.note.ensures.0 c.note.ensures.1.0 put.here (λ u l ne. put.others u ne) (subst (λ (n : ℕ). Reaches a n) (sym (size_is v)) fits.0) fits.1 (sym zero ∙ is));
       kept = (λ l. absurd (omega (arith, c.if-why-eq0.true)), λ l. absurd (omega (arith, c.if-why-eq0.true)));
     }

@@ -32,15 +32,15 @@ read-requires g c =
       lent = (stripe_room c.many.result _ c.args.room.now c.many.ensures.is.0 k.most c.requires.lent.0, c.requires.lent.1);
     }
 
-pub returns-in-err-read : goal.returns-in-err-read
-returns-in-err-read g c =
+pub returns-in_err-read-in-Read : goal.returns-in_err-read-in-Read
+returns-in_err-read-in-Read g c =
     let v = c.requires.held in
     let w = c.read.ensures.went in
     record {
       deaths = w.deaths;
       same = (refl, tags_kept _ c.args.room.now c.read.new.columns (omega (arith, c.requires.lent.0)));
-      how = MatchResult-from_err c.from-residual.result _ _ c.from-residual.ensures.0
-          (λ _. lost_sound v w.deaths c.in-err-read.ensures.how (ready_asked w (says c.args.self.now.superblock) v.c v.stands.ready).sound);
+      how = MatchResult-from_err c.from_residual.result _ _ c.from_residual.ensures.0
+          (λ _. lost_sound v w.deaths c.in_err-read-in-Read.ensures.how (ready_asked w (says c.args.self.now.superblock) v.c v.stands.ready).sound);
     }
 
 pub write-requires : goal.write-requires
@@ -54,11 +54,11 @@ write-requires g c =
       ready = (v.c, (v.stands.ready, v.stands.explains.coded));
       marks = v.stands.marks;
       few = omega (arith, v.stands.explains.early, c.requires.early);
-      lent = (stripe_room c.many.result _ c.args.room.now c.many.ensures.is.0 k.most c.requires.lent.0, omega (arith, c.copy-from-slice.ensures.len, c.requires.lent.1));
+      lent = (stripe_room c.many.result _ c.args.room.now c.many.ensures.is.0 k.most c.requires.lent.0, omega (arith, c.copy_from_slice.ensures.len, c.requires.lent.1));
     }
 
-pub returns-in-err-write : goal.returns-in-err-write
-returns-in-err-write g c =
+pub returns-in_err-write-in-Write : goal.returns-in_err-write-in-Write
+returns-in_err-write-in-Write g c =
     let v = c.requires.held in
     let died = c.write.ensures.deaths in
     let x = g.D.Disks.shelf c.args.d.now in
@@ -66,22 +66,22 @@ returns-in-err-write g c =
     let S = says c.args.self.now.superblock in
     let b = column c.args.tag c.args.room.now in
     let h = asks_for v c.args.tag c.requires.taken.0 (Write c.in-Write.s) (c.requires.taken.1 ∙ ap Some c.in-Write.is) in
-    let words : c.copy-from-slice.new.self ≡ b = c.copy-from-slice.ensures.after ∙ ap (λ (n : ℕ). take n (drop (64 * c.args.tag) c.args.room.now)) (let e : 64 * c.args.tag + 64 - 64 * c.args.tag ≡ 64 = omega arith in e) in
+    let words : c.copy_from_slice.new.self ≡ b = c.copy_from_slice.ensures.after ∙ ap (λ (n : ℕ). take n (drop (64 * c.args.tag) c.args.room.now)) (let e : 64 * c.args.tag + 64 - 64 * c.args.tag ≡ 64 = omega arith in e) in
     record {
       deaths = died;
       same = (refl, tags_kept _ c.args.room.now c.write.new.columns (omega (arith, c.requires.lent.0)));
-      how = MatchResult-from_err c.from-residual-in-err-write.result _ _ c.from-residual-in-err-write.ensures.0
+      how = MatchResult-from_err c.from_residual-in_err-write-in-Write.result _ _ c.from_residual-in_err-write-in-Write.ensures.0
           (λ _. lost_write v died c.args.tag c.in-Write.s c.requires.taken.0 b b h.m h.g h.is
           (subst (λ (w : List ℕ). Unsaved y.sectors c.in-Write.s w S x y) words
-          (subst (λ (n : ℕ). Unsaved n c.in-Write.s c.copy-from-slice.new.self S x y) (v.stands.same ∙ sym died.size) c.in-err-write.ensures.how)));
+          (subst (λ (n : ℕ). Unsaved n c.in-Write.s c.copy_from_slice.new.self S x y) (v.stands.same ∙ sym died.size) c.in_err-write-in-Write.ensures.how)));
     }
 
-pub returns-in-ok-read : goal.returns-in-ok-read
-returns-in-ok-read g c =
+pub returns-in_ok-read-in-Read : goal.returns-in_ok-read-in-Read
+returns-in_ok-read-in-Read g c =
     let w = c.read.ensures.went in
     let x = g.D.Disks.shelf c.args.d.now in
     let y = g.D.Disks.shelf c.read.new.d in
-    let got = c.in-ok-read.ensures.how in
+    let got = c.in_ok-read-in-Read.ensures.how in
     record {
       deaths = w.deaths;
       same = (refl, tags_kept _ c.args.room.now c.read.new.columns (omega (arith, c.requires.lent.0)));
@@ -93,26 +93,26 @@ returns-in-ok-read g c =
           (ready_asked w (says c.args.self.now.superblock) v.c v.stands.ready) c.read.ensures.same.0 c.read.ensures.same.1 words);
     }
 
-pub returns-in-ok-write : goal.returns-in-ok-write
-returns-in-ok-write g c =
+pub returns-in_ok-write-in-Write : goal.returns-in_ok-write-in-Write
+returns-in_ok-write-in-Write g c =
     let died = c.write.ensures.deaths in
     let x = g.D.Disks.shelf c.args.d.now in
     let y = g.D.Disks.shelf c.write.new.d in
     let S = says c.args.self.now.superblock in
     let b = column c.args.tag c.args.room.now in
-    let done = c.in-ok-write.ensures.how in
-    let words : c.copy-from-slice.new.self ≡ b = c.copy-from-slice.ensures.after ∙ ap (λ (n : ℕ). take n (drop (64 * c.args.tag) c.args.room.now)) (let e : 64 * c.args.tag + 64 - 64 * c.args.tag ≡ 64 = omega arith in e) in
+    let done = c.in_ok-write-in-Write.ensures.how in
+    let words : c.copy_from_slice.new.self ≡ b = c.copy_from_slice.ensures.after ∙ ap (λ (n : ℕ). take n (drop (64 * c.args.tag) c.args.room.now)) (let e : 64 * c.args.tag + 64 - 64 * c.args.tag ≡ 64 = omega arith in e) in
     record {
       deaths = died;
       same = (refl, tags_kept _ c.args.room.now c.write.new.columns (omega (arith, c.requires.lent.0)));
       how = λ v.
           let h = asks_for v c.args.tag c.requires.taken.0 (Write c.in-Write.s) (c.requires.taken.1 ∙ ap Some c.in-Write.is) in
           let e = v.stands.same ∙ sym died.size in
-          subst (λ (a : Ask). Performed a Done c.args.tag c.copy-from-slice.new.self (under c.args.self.now c.write.new.b) v.h y (g.D.Disks.seen c.write.new.d)) (sym c.in-Write.is)
-          (performed_write v died c.args.tag c.in-Write.s c.requires.taken.0 c.copy-from-slice.new.self b h.m h.g h.is c.write.new.b
+          subst (λ (a : Ask). Performed a Done c.args.tag c.copy_from_slice.new.self (under c.args.self.now c.write.new.b) v.h y (g.D.Disks.seen c.write.new.d)) (sym c.in-Write.is)
+          (performed_write v died c.args.tag c.in-Write.s c.requires.taken.0 c.copy_from_slice.new.self b h.m h.g h.is c.write.new.b
           (subst (λ (n : ℕ). says c.write.new.b ≡ journalling S (stripe_of (n - 64) c.in-Write.s)) e done.0) done.1
           (subst (λ (w : List ℕ). Saved y.sectors c.in-Write.s w S x y) words
-          (subst (λ (n : ℕ). Saved n c.in-Write.s c.copy-from-slice.new.self S x y) e done.2)));
+          (subst (λ (n : ℕ). Saved n c.in-Write.s c.copy_from_slice.new.self S x y) e done.2)));
     }
 
 pub returns-in-Flush : goal.returns-in-Flush

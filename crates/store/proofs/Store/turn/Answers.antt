@@ -7,13 +7,13 @@ use Rattle.store.proofs.Histories.{ticks_deaths}
 use Rattle.store.proofs.Turning.{rests, tells_one}
 use Rattle.store.proofs.Store.turn.Goals as goal
 
-pub returns-in-default : goal.returns-in-default
-returns-in-default g c = record { only = λ e. absurd (true≢false e); after = record { goes = rests c.requires.held c.in-default.ensures }; ticked = refl }
+pub returns-in_default : goal.returns-in_default
+returns-in_default g c = record { only = λ e. absurd (true≢false e); after = record { goes = rests c.requires.held c.in_default.ensures }; ticked = refl }
 
-pub returns-in-err-reply : goal.returns-in-err-reply
-returns-in-err-reply g c =
-    let p = err_from_is_err_and c.from-residual.result c.from-residual.ensures.1 in
-    let lost = c.in-err-reply.ensures.how in
+pub returns-in_err-reply : goal.returns-in_err-reply
+returns-in_err-reply g c =
+    let p = err_from_is_err_and c.from_residual.result c.from_residual.ensures.1 in
+    let lost = c.in_err-reply.ensures.how in
     record { only = λ _. lost.off; after = simp p.1 lost; ticked = ticks_deaths c.perform.ensures.deaths }
 
 pub returns : goal.returns
@@ -26,7 +26,7 @@ returns g c =
     record {
       only = λ e. absurd (true≢false e);
       after =
-          tells_one v.table c.perform.new.self c.perform.new.room c.in-Some.tag small f (c.in-ok-reply.ensures.how v) died.size
+          tells_one v.table c.perform.new.self c.perform.new.room c.in-Some.tag small f (c.in_ok-reply.ensures.how v) died.size
           (record { sectors = c.perform.new.self.sectors; superblock = c.perform.new.self.superblock; tags = c.close.new.self }) refl refl (omega (arith, small, c.close.ensures.1.1, ap (λ (ts : Tags). length ts.asked) tags))
           (c.close.ensures.0 ∙ ap (λ (ts : Tags). set ts.asked c.in-Some.tag None) tags) c.close.ensures.1.0 c.perform.ensures.same.1;
       ticked = ticks_deaths died;

@@ -20,15 +20,15 @@ carry-requires g c =
       lent = omega arith;
     }
 
-pub returns-in-err-carry : goal.returns-in-err-carry
-returns-in-err-carry g c =
+pub returns-in_err-carry : goal.returns-in_err-carry
+returns-in_err-carry g c =
     record {
       went = went_longer (omega (arith, c.many-p-end.ensures.is.1.1)) (moving_went c.requires.place.1.1 c.loop-p.invariant c.at-at.result c.carry.ensures.went);
-      how = MatchResult-from_err c.from-residual.result _ _ c.from-residual.ensures.0 (λ _. c.in-err-carry.ensures.how);
+      how = MatchResult-from_err c.from_residual.result _ _ c.from_residual.ensures.0 (λ _. c.in_err-carry.ensures.how);
     }
 
 pub loop-p-preserved : goal.loop-p-preserved
-loop-p-preserved g c = moving_more c.requires.place.1.1 c.loop-p.invariant c.at-at.result c.carry.ensures.went c.at-at.ensures.0 c.in-ok-carry.ensures.how.0 c.in-ok-carry.ensures.how.1
+loop-p-preserved g c = moving_more c.requires.place.1.1 c.loop-p.invariant c.at-at.result c.carry.ensures.went c.at-at.ensures.0 c.in_ok-carry.ensures.how.0 c.in_ok-carry.ensures.how.1
 
 pub returns : goal.returns
 returns g c =

@@ -18,23 +18,23 @@ unmarked b l =
 pub loop-i-init : goal.loop-i-init
 loop-i-init g c = look_none _ _ _ (unmarked _ c.requires.lent.0)
 
-pub read-sector-requires : goal.read-sector-requires
-read-sector-requires g c =
+pub read_sector-requires : goal.read_sector-requires
+read_sector-requires g c =
     let w = c.loop-i.invariant.went in record { may = (omega (arith, w.spent, c.requires.left), omega arith, omega (arith, w.deaths.size, c.requires.size)); lent = omega arith }
 
-pub returns-in-err-read-sector : goal.returns-in-err-read-sector
-returns-in-err-read-sector g c =
+pub returns-in_err-read_sector : goal.returns-in_err-read_sector
+returns-in_err-read_sector g c =
     record {
-      went = went_longer (omega arith) (went_then c.loop-i.invariant.went c.read-sector.ensures.went);
-      how = MatchResult-from_err c.from-residual.result _ _ c.from-residual.ensures.0 (λ _. c.in-err-read-sector.ensures.how);
+      went = went_longer (omega arith) (went_then c.loop-i.invariant.went c.read_sector.ensures.went);
+      how = MatchResult-from_err c.from_residual.result _ _ c.from_residual.ensures.0 (λ _. c.in_err-read_sector.ensures.how);
     }
 
 pub loop-i-preserved : goal.loop-i-preserved
 loop-i-preserved g c =
-    let h = c.in-ok-read-sector.ensures.how in
+    let h = c.in_ok-read_sector.ensures.how in
     elim c.if-branch.branch [
       | then-branch w ↦
-          rw (w.best-is, w.keep-newer.ensures)
-          (look_alive c.loop-i.invariant c.read-sector.ensures.went _ (omega arith) (h.alive ∙ w.if-branch.true) (h.shows (true-T w.if-branch.true)))
-      | else-branch w ↦ rw w.best-is (look_dead c.loop-i.invariant c.read-sector.ensures.went (h.alive ∙ w.if-branch.false))
+          rw (w.best-is, w.keep_newer.ensures)
+          (look_alive c.loop-i.invariant c.read_sector.ensures.went _ (omega arith) (h.alive ∙ w.if-branch.true) (h.shows (true-T w.if-branch.true)))
+      | else-branch w ↦ rw w.best-is (look_dead c.loop-i.invariant c.read_sector.ensures.went (h.alive ∙ w.if-branch.false))
     ]

@@ -9,20 +9,20 @@ use Rattle.store.proofs.recovery.recover.Goals as goal
 pub look-requires : goal.look-requires
 look-requires g c = record { left = omega (arith, c.requires.left); size = omega (arith, c.requires.held.torn.old.least); lent = c.requires.lent }
 
-pub returns-in-err-look : goal.returns-in-err-look
-returns-in-err-look g c =
+pub returns-in_err-look : goal.returns-in_err-look
+returns-in_err-look g c =
     record {
       deaths = c.look.ensures.went.deaths;
       spent = omega (arith, c.look.ensures.went.spent);
-      how = MatchResult-from_err c.from-residual.result _ _ c.from-residual.ensures.0 (λ _. lapsed_first c.look.ensures.went c.in-err-look.ensures.how);
+      how = MatchResult-from_err c.from_residual.result _ _ c.from_residual.ensures.0 (λ _. lapsed_first c.look.ensures.went c.in_err-look.ensures.how);
     }
 
 pub decode-found-requires : goal.decode-found-requires
-decode-found-requires g c = record { lent = omega arith; proper = found_proper c.in-ok-look.ensures.how _ _ _ _ c.requires.held.torn }
+decode-found-requires g c = record { lent = omega arith; proper = found_proper c.in_ok-look.ensures.how _ _ _ _ c.requires.held.torn }
 
 pub head-requires : goal.head-requires
 head-requires g c =
-    let p = c.in-ok-look.ensures.how in
+    let p = c.in_ok-look.ensures.how in
     let o = c.requires.held in
     let e = sym c.decode-found.ensures.0 in
     record {
@@ -33,21 +33,21 @@ head-requires g c =
       lent = omega arith;
     }
 
-pub returns-in-err-head : goal.returns-in-err-head
-returns-in-err-head g c =
-    let p = c.in-ok-look.ensures.how in
+pub returns-in_err-head : goal.returns-in_err-head
+returns-in_err-head g c =
+    let p = c.in_ok-look.ensures.how in
     record {
       deaths = deaths_then c.look.ensures.went.deaths c.head.ensures.went.deaths;
       spent = omega (arith, c.look.ensures.went.spent, c.head.ensures.went.spent);
-      how = MatchResult-from_err c.from-residual-in-err-head.result _ _ c.from-residual-in-err-head.ensures.0
-          (λ _. lapsed_later (says c.decode-found.result) c.decode-found.ensures.0 p c.head.ensures.went c.in-err-head.ensures.how);
+      how = MatchResult-from_err c.from_residual-in_err-head.result _ _ c.from_residual-in_err-head.ensures.0
+          (λ _. lapsed_later (says c.decode-found.result) c.decode-found.ensures.0 p c.head.ensures.went c.in_err-head.ensures.how);
     }
 
 pub returns : goal.returns
 returns g c =
-    let p = c.in-ok-look.ensures.how in
+    let p = c.in_ok-look.ensures.how in
     record {
       deaths = deaths_then c.look.ensures.went.deaths c.head.ensures.went.deaths;
       spent = omega (arith, c.look.ensures.went.spent, c.head.ensures.went.spent);
-      how = (recovered (says c.decode-found.result) c.decode-found.ensures.0 p c.head.ensures.went c.in-ok-head.ensures.how, c.decode-found.ensures.1);
+      how = (recovered (says c.decode-found.result) c.decode-found.ensures.0 p c.head.ensures.went c.in_ok-head.ensures.how, c.decode-found.ensures.1);
     }

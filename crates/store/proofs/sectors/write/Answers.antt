@@ -25,8 +25,8 @@ use Rattle.store.proofs.sectors.write.Goals as goal
 along : {D : Type 0} {x y v w : D} (P : D → D → Type 0) → v ≡ x → y ≡ w → P v w → P x y
 along {x = x} {w = w} P p q t = subst (λ a. P x a) (sym q) (subst (λ a. P a w) p t)
 
-pub overflow-sub-n : goal.overflow-sub-n
-overflow-sub-n g c = omega (arith, c.requires.size.0, c.requires.ready.1.0.sound.kept.least)
+pub overflow_sub-n : goal.overflow_sub-n
+overflow_sub-n g c = omega (arith, c.requires.size.0, c.requires.ready.1.0.sound.kept.least)
 
 pub locate-at-requires : goal.locate-at-requires
 locate-at-requires g c = omega (arith, c.requires.size.0, c.requires.ready.1.0.sound.kept.least)
@@ -46,18 +46,18 @@ load-requires g c =
     })
 
 -- the disks after the load, against those that were lent
-pub returns-in-err-missing : goal.returns-in-err-missing
-returns-in-err-missing g c =
+pub returns-in_err-missing : goal.returns-in_err-missing
+returns-in_err-missing g c =
     let ds = listed c.args.b.now.members.count c.args.b.now.members.disks in
     let x = c.args.d.now in
     let y = c.load.new.self.disks.now in
     let same : c.load.new.self.disks.ghost_name ≡ c.begin-change.result.disks.ghost_name = c.load.ensures.same.0 in
     let w : Went (length ds) Nowhere (g.D.Disks.shelf x) (g.D.Disks.seen x) (g.D.Disks.shelf y) (g.D.Disks.seen y) =
     subst (λ (v : g.row.D.Denot). Went (length ds) Nowhere (g.D.Disks.shelf v) (g.D.Disks.seen v) (g.D.Disks.shelf y) (g.D.Disks.seen y)) c.begin-change.ensures.1.0 c.load.ensures.went in
-    let gone : Unsaved c.args.n c.args.s c.args.words.now (says c.args.b.now) (g.D.Disks.shelf x) (g.D.Disks.shelf y) = unsaved_load w c.in-err-missing.ensures.how in
+    let gone : Unsaved c.args.n c.args.s c.args.words.now (says c.args.b.now) (g.D.Disks.shelf x) (g.D.Disks.shelf y) = unsaved_load w c.in_err-missing.ensures.how in
     let few : (g.D.Disks.shelf x).left ≤ (g.D.Disks.shelf y).left + (2 * length ds + 2 * extra c.args.b.now.rebuild + 8) = omega (arith, w.spent) in
     let died : Deaths (g.D.Disks.shelf x) (g.D.Disks.seen x) (g.D.Disks.shelf y) (g.D.Disks.seen y) = w.deaths in
-    record { deaths = search rules; spent = search rules; how = MatchResult-from_err c.from-residual.result _ _ c.from-residual.ensures.0 (λ _. search rules) }
+    record { deaths = search rules; spent = search rules; how = MatchResult-from_err c.from_residual.result _ _ c.from_residual.ensures.0 (λ _. search rules) }
 
 pub take-requires : goal.take-requires
 take-requires g c =
@@ -85,20 +85,20 @@ journal-requires g c =
     let list = c.learn.ensures.list in
     let many : length (listed c.learn.new.members.count c.learn.new.members.disks) ≡ length ds = ap length list in
     let at-r : c.take.new.self.stripe ≡ r = c.take.ensures.same.1.1 ∙ (c.load.ensures.same.1.0 ∙ c.begin-change.ensures.1.1.0) in
-    let dead : _ = subst (λ (v : g.row.D.Denot). Each c.in-ok-missing.missing (λ i. (i < length ds) × ((g.D.Disks.shelf v).alive (disk_of ds c.begin-change.result.stripe i) ≡ false))) (sym c.take.ensures.same.1.0) c.in-ok-missing.ensures.how.dead in
+    let dead : _ = subst (λ (v : g.row.D.Denot). Each c.in_ok-missing.missing (λ i. (i < length ds) × ((g.D.Disks.shelf v).alive (disk_of ds c.begin-change.result.stripe i) ≡ false))) (sym c.take.ensures.same.1.0) c.in_ok-missing.ensures.how.dead in
     let long : length c.load.new.columns ≡ length c.args.columns.now = c.load.auto.columns in
     let long2 : length c.take.new.columns ≡ length c.load.new.columns = c.take.auto.columns in
     record {
       left = omega (arith, many, w.spent, c.requires.left);
       place = omega (arith, at-r, l, w.deaths.size, c.requires.size.0);
       ready = (c.requires.ready.0, subst (λ (Q : Super). Ready (g.D.Disks.shelf y) Q c.requires.ready.0) (sym (parts_same b.generation _ _ _ _ _ _ list refl refl)) (ready_asked w S c.requires.ready.0 c.requires.ready.1.0));
-      marks = marks_kept (g.D.Disks.shelf y) (sym list) (sym c.learn.ensures.marks) (marks_learned (g.D.Disks.shelf y) ds b.members.dead c.in-ok-missing.missing r (marks_went w ds b.members.dead c.requires.marks) (subst (λ (z : ℕ). Each c.in-ok-missing.missing (λ i. (i < length ds) × ((g.D.Disks.shelf y).alive (disk_of ds z i) ≡ false))) c.begin-change.ensures.1.1.0 dead));
+      marks = marks_kept (g.D.Disks.shelf y) (sym list) (sym c.learn.ensures.marks) (marks_learned (g.D.Disks.shelf y) ds b.members.dead c.in_ok-missing.missing r (marks_went w ds b.members.dead c.requires.marks) (subst (λ (z : ℕ). Each c.in_ok-missing.missing (λ i. (i < length ds) × ((g.D.Disks.shelf y).alive (disk_of ds z i) ≡ false))) c.begin-change.ensures.1.1.0 dead));
       few = c.requires.few;
       lent = (omega (arith, many, long, long2, c.requires.lent.0), refl);
     }
 
-pub returns-in-err-lasting : goal.returns-in-err-lasting
-returns-in-err-lasting g c =
+pub returns-in_err-lasting : goal.returns-in_err-lasting
+returns-in_err-lasting g c =
     let b = c.args.b.now in
     let S = says c.args.b.now in
     let ds = listed c.args.b.now.members.count c.args.b.now.members.disks in
@@ -115,21 +115,21 @@ returns-in-err-lasting g c =
     let at-r : c.take.new.self.stripe ≡ r = c.take.ensures.same.1.1 ∙ (c.load.ensures.same.1.0 ∙ c.begin-change.ensures.1.1.0) in
     let w : Went (length ds) Nowhere (g.D.Disks.shelf x) (g.D.Disks.seen x) (g.D.Disks.shelf y) (g.D.Disks.seen y) =
     along (λ (a o : g.row.D.Denot). Went (length ds) Nowhere (g.D.Disks.shelf a) (g.D.Disks.seen a) (g.D.Disks.shelf o) (g.D.Disks.seen o)) c.begin-change.ensures.1.0 c.take.ensures.same.1.0 c.load.ensures.went in
-    let p : Loaded c.in-ok-missing.missing ds (64 + r) r t (g.D.Disks.shelf x) (g.D.Disks.shelf y) =
-    along (λ (a o : g.row.D.Denot). Loaded c.in-ok-missing.missing ds (64 + r) r t (g.D.Disks.shelf a) (g.D.Disks.shelf o)) c.begin-change.ensures.1.0 c.take.ensures.same.1.0
-    (subst (λ (q : ℕ). Loaded c.in-ok-missing.missing ds (64 + q) q t (g.D.Disks.shelf c.begin-change.result.disks.now) (g.D.Disks.shelf c.load.new.self.disks.now)) c.begin-change.ensures.1.1.0 c.in-ok-missing.ensures.how) in
+    let p : Loaded c.in_ok-missing.missing ds (64 + r) r t (g.D.Disks.shelf x) (g.D.Disks.shelf y) =
+    along (λ (a o : g.row.D.Denot). Loaded c.in_ok-missing.missing ds (64 + r) r t (g.D.Disks.shelf a) (g.D.Disks.shelf o)) c.begin-change.ensures.1.0 c.take.ensures.same.1.0
+    (subst (λ (q : ℕ). Loaded c.in_ok-missing.missing ds (64 + q) q t (g.D.Disks.shelf c.begin-change.result.disks.now) (g.D.Disks.shelf c.load.new.self.disks.now)) c.begin-change.ensures.1.1.0 c.in_ok-missing.ensures.how) in
     let is : c.many-k.result ≡ length ds = c.many-k.ensures.is.0 in
     let put : Put (length ds) j c.args.words.now (held (length ds) t) (held (length ds) u) = subst (λ (q : ℕ). Put q j c.args.words.now (held q t) (held q u)) is c.take.ensures.put in
     let e = parts_same b.generation _ _ _ _ _ _ c.learn.ensures.list refl refl in
     let un : Unjournalled S r (held (length ds) u) (g.D.Disks.shelf y) (g.D.Disks.shelf z) =
     subst (λ (q : ℕ). Unjournalled S q (held (length ds) u) (g.D.Disks.shelf y) (g.D.Disks.shelf z)) at-r
-    (subst (λ (Q : Super). Unjournalled Q c.take.new.self.stripe (held (length Q.members) u) (g.D.Disks.shelf y) (g.D.Disks.shelf z)) e c.in-err-lasting.ensures.how) in
+    (subst (λ (Q : Super). Unjournalled Q c.take.new.self.stripe (held (length Q.members) u) (g.D.Disks.shelf y) (g.D.Disks.shelf z)) e c.in_err-lasting.ensures.how) in
     let gone : Unsaved c.args.n c.args.s c.args.words.now S (g.D.Disks.shelf x) (g.D.Disks.shelf z) =
     unsaved_journal S c.args.n c.args.s r j t u c.args.words.now some c.requires.size.1 c.locate-at.ensures.1 c.locate-at.ensures.0 k.proper.roster.most c.requires.size.0 w p put un in
     let many : length (listed c.learn.new.members.count c.learn.new.members.disks) ≡ length ds = ap length c.learn.ensures.list in
     let few : (g.D.Disks.shelf x).left ≤ (g.D.Disks.shelf z).left + (2 * length ds + 2 * extra b.rebuild + 8) = omega (arith, many, w.spent, c.journal.ensures.spent) in
     let died : Deaths (g.D.Disks.shelf x) (g.D.Disks.seen x) (g.D.Disks.shelf z) (g.D.Disks.seen z) = deaths_then w.deaths c.journal.ensures.deaths in
-    record { deaths = search rules; spent = search rules; how = MatchResult-from_err c.from-residual-in-err-lasting.result _ _ c.from-residual-in-err-lasting.ensures.0 (λ _. search rules) }
+    record { deaths = search rules; spent = search rules; how = MatchResult-from_err c.from_residual-in_err-lasting.result _ _ c.from_residual-in_err-lasting.ensures.0 (λ _. search rules) }
 
 pub place-requires : goal.place-requires
 place-requires g c =
@@ -149,13 +149,13 @@ place-requires g c =
     let at-r : c.take.new.self.stripe ≡ r = c.take.ensures.same.1.1 ∙ (c.load.ensures.same.1.0 ∙ c.begin-change.ensures.1.1.0) in
     let w : Went (length ds) Nowhere (g.D.Disks.shelf x) (g.D.Disks.seen x) (g.D.Disks.shelf y) (g.D.Disks.seen y) =
     along (λ (a o : g.row.D.Denot). Went (length ds) Nowhere (g.D.Disks.shelf a) (g.D.Disks.seen a) (g.D.Disks.shelf o) (g.D.Disks.seen o)) c.begin-change.ensures.1.0 c.take.ensures.same.1.0 c.load.ensures.went in
-    let p : Loaded c.in-ok-missing.missing ds (64 + r) r t (g.D.Disks.shelf x) (g.D.Disks.shelf y) =
-    along (λ (a o : g.row.D.Denot). Loaded c.in-ok-missing.missing ds (64 + r) r t (g.D.Disks.shelf a) (g.D.Disks.shelf o)) c.begin-change.ensures.1.0 c.take.ensures.same.1.0
-    (subst (λ (q : ℕ). Loaded c.in-ok-missing.missing ds (64 + q) q t (g.D.Disks.shelf c.begin-change.result.disks.now) (g.D.Disks.shelf c.load.new.self.disks.now)) c.begin-change.ensures.1.1.0 c.in-ok-missing.ensures.how) in
+    let p : Loaded c.in_ok-missing.missing ds (64 + r) r t (g.D.Disks.shelf x) (g.D.Disks.shelf y) =
+    along (λ (a o : g.row.D.Denot). Loaded c.in_ok-missing.missing ds (64 + r) r t (g.D.Disks.shelf a) (g.D.Disks.shelf o)) c.begin-change.ensures.1.0 c.take.ensures.same.1.0
+    (subst (λ (q : ℕ). Loaded c.in_ok-missing.missing ds (64 + q) q t (g.D.Disks.shelf c.begin-change.result.disks.now) (g.D.Disks.shelf c.load.new.self.disks.now)) c.begin-change.ensures.1.1.0 c.in_ok-missing.ensures.how) in
     let is : c.many-k.result ≡ length ds = c.many-k.ensures.is.0 in
     let put : Put (length ds) j c.args.words.now (held (length ds) t) (held (length ds) u) = subst (λ (q : ℕ). Put q j c.args.words.now (held q t) (held q u)) is c.take.ensures.put in
     let e = parts_same b.generation _ _ _ _ _ _ c.learn.ensures.list refl refl in
-    let jl = c.in-ok-lasting.ensures.how in
+    let jl = c.in_ok-lasting.ensures.how in
     let S' = says c.journal.new.b in
     let same-b : says c.journal.new.b ≡ journalling S r = subst (λ (q : ℕ). says c.journal.new.b ≡ journalling S q) at-r (subst (λ (Q : Super). says c.journal.new.b ≡ journalling Q c.take.new.self.stripe) e jl.1) in
     let q : Journalled S r (held (length ds) u) (g.D.Disks.shelf y) (g.D.Disks.shelf z) =
@@ -171,8 +171,8 @@ place-requires g c =
     let three : count (length ms) (chosen c.journal.new.self.touched.columns) ≤ 3 = subst (λ (v : List Bool). count (length ms) (chosen v) ≤ 3) (sym sel) (few_touched (length ms) j) in
     let at-r2 : c.journal.new.self.stripe ≡ r = c.journal.ensures.same.1.0 ∙ at-r in
     let l = at_stripe c.args.n _ c.args.s r j some c.requires.size.1 c.locate-at.ensures.1 c.locate-at.ensures.0 in
-    let dead : Each c.in-ok-missing.missing (λ i. (i < length ds) × ((g.D.Disks.shelf y).alive (disk_of ds r i) ≡ false)) = p.dead in
-    let marks-y : MarksTrue (g.D.Disks.shelf y) ds (learned b.members.dead c.in-ok-missing.missing r) = marks_learned (g.D.Disks.shelf y) ds b.members.dead c.in-ok-missing.missing r (marks_went w ds b.members.dead c.requires.marks) dead in
+    let dead : Each c.in_ok-missing.missing (λ i. (i < length ds) × ((g.D.Disks.shelf y).alive (disk_of ds r i) ≡ false)) = p.dead in
+    let marks-y : MarksTrue (g.D.Disks.shelf y) ds (learned b.members.dead c.in_ok-missing.missing r) = marks_learned (g.D.Disks.shelf y) ds b.members.dead c.in_ok-missing.missing r (marks_went w ds b.members.dead c.requires.marks) dead in
     let mem : c.journal.new.b.members ≡ c.learn.new.members = jl.2 in
     let marks-z : MarksTrue (g.D.Disks.shelf z) ms c.journal.new.b.members.dead =
     marks_kept (g.D.Disks.shelf z) (sym (ap (λ (v : Members). listed v.count v.disks) mem ∙ c.learn.ensures.list)) (sym (ap (λ (v : Members). v.dead) mem ∙ c.learn.ensures.marks)) (marks_deaths c.journal.ensures.deaths ds _ marks-y) in
@@ -187,7 +187,7 @@ place-requires g c =
       lent = omega (arith, many2, long, long2, c.requires.lent.0);
     }
 
-facts : (g : Over) (c : goal.After-d-2·1 g) → (Deaths (g.D.Disks.shelf c.args.d.now) (g.D.Disks.seen c.args.d.now) (g.D.Disks.shelf c.place.new.self.0) (g.D.Disks.seen c.place.new.self.0)) × ((g.D.Disks.shelf c.args.d.now).left ≤ (g.D.Disks.shelf c.place.new.self.0).left + (2 * length (listed c.args.b.now.members.count c.args.b.now.members.disks) + 2 * extra c.args.b.now.rebuild + 8)) × (c.journal.new.self.disks.ghost_name ≡ c.begin-change.result.disks.ghost_name) × (says c.journal.new.b ≡ journalling (says c.args.b.now) (stripe_of (c.args.n - 64) c.args.s)) × (MarksTrue (g.D.Disks.shelf c.place.new.self.0) (listed c.journal.new.b.members.count c.journal.new.b.members.disks) c.journal.new.b.members.dead) × (Unplaced (says c.journal.new.b) (g.D.Disks.shelf c.journal.new.self.disks.now) (g.D.Disks.shelf c.place.new.self.0) → Unsaved c.args.n c.args.s c.args.words.now (says c.args.b.now) (g.D.Disks.shelf c.args.d.now) (g.D.Disks.shelf c.place.new.self.0)) × (Placing (chosen c.journal.new.self.touched.columns) (says c.journal.new.b) c.journal.new.self.stripe (held (length (listed c.journal.new.b.members.count c.journal.new.b.members.disks)) c.take.new.columns) (g.D.Disks.shelf c.journal.new.self.disks.now) (g.D.Disks.shelf c.place.new.self.0) → Saved c.args.n c.args.s c.args.words.now (says c.args.b.now) (g.D.Disks.shelf c.args.d.now) (g.D.Disks.shelf c.place.new.self.0))
+facts : (g : Over) (c : goal.After-d-2-1 g) → (Deaths (g.D.Disks.shelf c.args.d.now) (g.D.Disks.seen c.args.d.now) (g.D.Disks.shelf c.place.new.self.0) (g.D.Disks.seen c.place.new.self.0)) × ((g.D.Disks.shelf c.args.d.now).left ≤ (g.D.Disks.shelf c.place.new.self.0).left + (2 * length (listed c.args.b.now.members.count c.args.b.now.members.disks) + 2 * extra c.args.b.now.rebuild + 8)) × (c.journal.new.self.disks.ghost_name ≡ c.begin-change.result.disks.ghost_name) × (says c.journal.new.b ≡ journalling (says c.args.b.now) (stripe_of (c.args.n - 64) c.args.s)) × (MarksTrue (g.D.Disks.shelf c.place.new.self.0) (listed c.journal.new.b.members.count c.journal.new.b.members.disks) c.journal.new.b.members.dead) × (Unplaced (says c.journal.new.b) (g.D.Disks.shelf c.journal.new.self.disks.now) (g.D.Disks.shelf c.place.new.self.0) → Unsaved c.args.n c.args.s c.args.words.now (says c.args.b.now) (g.D.Disks.shelf c.args.d.now) (g.D.Disks.shelf c.place.new.self.0)) × (Placing (chosen c.journal.new.self.touched.columns) (says c.journal.new.b) c.journal.new.self.stripe (held (length (listed c.journal.new.b.members.count c.journal.new.b.members.disks)) c.take.new.columns) (g.D.Disks.shelf c.journal.new.self.disks.now) (g.D.Disks.shelf c.place.new.self.0) → Saved c.args.n c.args.s c.args.words.now (says c.args.b.now) (g.D.Disks.shelf c.args.d.now) (g.D.Disks.shelf c.place.new.self.0))
 facts g c =
     let b = c.args.b.now in
     let S = says c.args.b.now in
@@ -205,13 +205,13 @@ facts g c =
     let at-r : c.take.new.self.stripe ≡ r = c.take.ensures.same.1.1 ∙ (c.load.ensures.same.1.0 ∙ c.begin-change.ensures.1.1.0) in
     let w : Went (length ds) Nowhere (g.D.Disks.shelf x) (g.D.Disks.seen x) (g.D.Disks.shelf y) (g.D.Disks.seen y) =
     along (λ (a o : g.row.D.Denot). Went (length ds) Nowhere (g.D.Disks.shelf a) (g.D.Disks.seen a) (g.D.Disks.shelf o) (g.D.Disks.seen o)) c.begin-change.ensures.1.0 c.take.ensures.same.1.0 c.load.ensures.went in
-    let p : Loaded c.in-ok-missing.missing ds (64 + r) r t (g.D.Disks.shelf x) (g.D.Disks.shelf y) =
-    along (λ (a o : g.row.D.Denot). Loaded c.in-ok-missing.missing ds (64 + r) r t (g.D.Disks.shelf a) (g.D.Disks.shelf o)) c.begin-change.ensures.1.0 c.take.ensures.same.1.0
-    (subst (λ (q : ℕ). Loaded c.in-ok-missing.missing ds (64 + q) q t (g.D.Disks.shelf c.begin-change.result.disks.now) (g.D.Disks.shelf c.load.new.self.disks.now)) c.begin-change.ensures.1.1.0 c.in-ok-missing.ensures.how) in
+    let p : Loaded c.in_ok-missing.missing ds (64 + r) r t (g.D.Disks.shelf x) (g.D.Disks.shelf y) =
+    along (λ (a o : g.row.D.Denot). Loaded c.in_ok-missing.missing ds (64 + r) r t (g.D.Disks.shelf a) (g.D.Disks.shelf o)) c.begin-change.ensures.1.0 c.take.ensures.same.1.0
+    (subst (λ (q : ℕ). Loaded c.in_ok-missing.missing ds (64 + q) q t (g.D.Disks.shelf c.begin-change.result.disks.now) (g.D.Disks.shelf c.load.new.self.disks.now)) c.begin-change.ensures.1.1.0 c.in_ok-missing.ensures.how) in
     let is : c.many-k.result ≡ length ds = c.many-k.ensures.is.0 in
     let put : Put (length ds) j c.args.words.now (held (length ds) t) (held (length ds) u) = subst (λ (q : ℕ). Put q j c.args.words.now (held q t) (held q u)) is c.take.ensures.put in
     let e = parts_same b.generation _ _ _ _ _ _ c.learn.ensures.list refl refl in
-    let jl = c.in-ok-lasting.ensures.how in
+    let jl = c.in_ok-lasting.ensures.how in
     let S' = says c.journal.new.b in
     let same-b : says c.journal.new.b ≡ journalling S r = subst (λ (q : ℕ). says c.journal.new.b ≡ journalling S q) at-r (subst (λ (Q : Super). says c.journal.new.b ≡ journalling Q c.take.new.self.stripe) e jl.1) in
     let q : Journalled S r (held (length ds) u) (g.D.Disks.shelf y) (g.D.Disks.shelf z) =
@@ -227,8 +227,8 @@ facts g c =
     let three : count (length ms) (chosen c.journal.new.self.touched.columns) ≤ 3 = subst (λ (v : List Bool). count (length ms) (chosen v) ≤ 3) (sym sel) (few_touched (length ms) j) in
     let at-r2 : c.journal.new.self.stripe ≡ r = c.journal.ensures.same.1.0 ∙ at-r in
     let l = at_stripe c.args.n _ c.args.s r j some c.requires.size.1 c.locate-at.ensures.1 c.locate-at.ensures.0 in
-    let dead : Each c.in-ok-missing.missing (λ i. (i < length ds) × ((g.D.Disks.shelf y).alive (disk_of ds r i) ≡ false)) = p.dead in
-    let marks-y : MarksTrue (g.D.Disks.shelf y) ds (learned b.members.dead c.in-ok-missing.missing r) = marks_learned (g.D.Disks.shelf y) ds b.members.dead c.in-ok-missing.missing r (marks_went w ds b.members.dead c.requires.marks) dead in
+    let dead : Each c.in_ok-missing.missing (λ i. (i < length ds) × ((g.D.Disks.shelf y).alive (disk_of ds r i) ≡ false)) = p.dead in
+    let marks-y : MarksTrue (g.D.Disks.shelf y) ds (learned b.members.dead c.in_ok-missing.missing r) = marks_learned (g.D.Disks.shelf y) ds b.members.dead c.in_ok-missing.missing r (marks_went w ds b.members.dead c.requires.marks) dead in
     let mem : c.journal.new.b.members ≡ c.learn.new.members = jl.2 in
     let marks-z : MarksTrue (g.D.Disks.shelf z) ms c.journal.new.b.members.dead =
     marks_kept (g.D.Disks.shelf z) (sym (ap (λ (v : Members). listed v.count v.disks) mem ∙ c.learn.ensures.list)) (sym (ap (λ (v : Members). v.dead) mem ∙ c.learn.ensures.marks)) (marks_deaths c.journal.ensures.deaths ds _ marks-y) in

@@ -21,16 +21,16 @@ fetch-requires g c =
     let b = place_within (length ds) c.loop-i.i c.args.r (omega (arith, c.many-k.ensures.is)) l in
     record {
       left = omega (arith, w.spent, c.requires.left, l);
-      place = (omega (arith, b, c.place-of-p.ensures), omega (arith, w.deaths.size, c.requires.size));
+      place = (omega (arith, b, c.place_of-p.ensures), omega (arith, w.deaths.size, c.requires.size));
       serving = serving_went w ds c.args.members.now.dead c.requires.serving;
       lent = omega arith;
     }
 
-pub returns-in-err-fetch : goal.returns-in-err-fetch
-returns-in-err-fetch g c =
+pub returns-in_err-fetch : goal.returns-in_err-fetch
+returns-in_err-fetch g c =
     record {
       went = went_longer (omega (arith, c.many-k.ensures.is.0)) (went_then c.loop-i.invariant.went c.fetch.ensures.went);
-      how = MatchResult-from_err c.from-residual.result _ _ c.from-residual.ensures.0 (λ _. c.in-err-fetch.ensures.how);
+      how = MatchResult-from_err c.from_residual.result _ _ c.from_residual.ensures.0 (λ _. c.in_err-fetch.ensures.how);
     }
 
 pub loop-i-preserved : goal.loop-i-preserved
@@ -41,13 +41,13 @@ loop-i-preserved g c =
     let ly : length c.fetch.new.into ≡ 64 = omega arith in
     let ek : 64 * c.loop-i.i + 64 - 64 * c.loop-i.i ≡ 64 = omega arith in
     let w = c.fetch.ensures.went in
-    let heard : Answered (disk_of ds c.args.r c.loop-i.i) c.args.s c.fetch.new.into c.in-ok-fetch.field-0 (g.D.Disks.shelf c.loop-i.d) (g.D.Disks.shelf c.fetch.new.d) =
-    subst (λ (p : ℕ). Answered (get_or ds p 0) c.args.s c.fetch.new.into c.in-ok-fetch.field-0 (g.D.Disks.shelf c.loop-i.d) (g.D.Disks.shelf c.fetch.new.d)) c.place-of-p.ensures
-    c.in-ok-fetch.ensures.how in
+    let heard : Answered (disk_of ds c.args.r c.loop-i.i) c.args.s c.fetch.new.into c.in_ok-fetch.field-0 (g.D.Disks.shelf c.loop-i.d) (g.D.Disks.shelf c.fetch.new.d) =
+    subst (λ (p : ℕ). Answered (get_or ds p 0) c.args.s c.fetch.new.into c.in_ok-fetch.field-0 (g.D.Disks.shelf c.loop-i.d) (g.D.Disks.shelf c.fetch.new.d)) c.place_of-p.ensures
+    c.in_ok-fetch.ensures.how in
     elim c.if-not-branch.branch [
       | then-not-branch b ↦
           rw (b.missing-is, b.also-missing.ensures)
-          (loading_dead _ c.fetch.new.into lt ly ek c.loop-i.invariant w c.in-ok-fetch.field-0 b.if-not-branch.true heard
+          (loading_dead _ c.fetch.new.into lt ly ek c.loop-i.invariant w c.in_ok-fetch.field-0 b.if-not-branch.true heard
           (λ i j ij jn di dj dn.
           no_third_column ds c.many-k.ensures.roster (g.D.Disks.shelf c.fetch.new.d) c.args.members.now.dead
           (serving_went (went_then c.loop-i.invariant.went w) ds c.args.members.now.dead c.requires.serving) c.args.r i j c.loop-i.i ij jn l di dj dn))

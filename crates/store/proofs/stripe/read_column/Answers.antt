@@ -12,13 +12,13 @@ pub fetch-requires : goal.fetch-requires
 fetch-requires g c =
     let ds = listed c.args.members.now.count c.args.members.now.disks in
     let b = place_within (length ds) c.args.i c.args.r c.requires.serving.roster.least c.requires.size.1 in
-    record { left = omega (arith, c.requires.left); place = (omega (arith, b, c.place-of-p.ensures), c.requires.size.0); serving = c.requires.serving; lent = c.requires.lent.1 }
+    record { left = omega (arith, c.requires.left); place = (omega (arith, b, c.place_of-p.ensures), c.requires.size.0); serving = c.requires.serving; lent = c.requires.lent.1 }
 
-pub returns-in-err-fetch : goal.returns-in-err-fetch
-returns-in-err-fetch g c =
+pub returns-in_err-fetch : goal.returns-in_err-fetch
+returns-in_err-fetch g c =
     record {
       went = went_longer (omega arith) c.fetch.ensures.went;
-      how = MatchResult-from_err c.from-residual.result _ _ c.from-residual.ensures.0 (λ _. c.in-err-fetch.ensures.how);
+      how = MatchResult-from_err c.from_residual.result _ _ c.from_residual.ensures.0 (λ _. c.in_err-fetch.ensures.how);
     }
 
 pub load-requires : goal.load-requires
@@ -31,21 +31,21 @@ load-requires g c =
       lent = c.requires.lent.0;
     }
 
-pub returns-in-err-missing : goal.returns-in-err-missing
-returns-in-err-missing g c =
+pub returns-in_err-missing : goal.returns-in_err-missing
+returns-in_err-missing g c =
     record {
       went = went_then c.fetch.ensures.went c.load.ensures.went;
-      how = MatchResult-from_err c.from-residual-in-err-missing.result _ _ c.from-residual-in-err-missing.ensures.0 (λ _. c.in-err-missing.ensures.how);
+      how = MatchResult-from_err c.from_residual-in_err-missing.result _ _ c.from_residual-in_err-missing.ensures.0 (λ _. c.in_err-missing.ensures.how);
     }
 
 pub returns : goal.returns
 returns g c =
     let t = c.load.new.stripe in
     let m : 64 * c.args.i + 64 - 64 * c.args.i ≡ 64 = omega arith in
-    let e : c.copy-from-slice.new.self ≡ column c.args.i c.load.new.stripe = c.copy-from-slice.ensures.after ∙ ap (λ (z : ℕ). take z (drop (64 * c.args.i) t)) m in
+    let e : c.copy_from_slice.new.self ≡ column c.args.i c.load.new.stripe = c.copy_from_slice.ensures.after ∙ ap (λ (z : ℕ). take z (drop (64 * c.args.i) t)) m in
     record {
       went = went_then c.fetch.ensures.went c.load.ensures.went;
-      how = read_all _ _ _ c.requires.size.1 e c.fetch.ensures.went c.in-ok-fetch.ensures.how c.in-ok-missing.ensures.how;
+      how = read_all _ _ _ c.requires.size.1 e c.fetch.ensures.went c.in_ok-fetch.ensures.how c.in_ok-missing.ensures.how;
     }
 
 pub returns-then-branch : goal.returns-then-branch
@@ -53,7 +53,7 @@ returns-then-branch g c =
     let ds = listed c.args.members.now.count c.args.members.now.disks in
     record {
       went = went_longer (omega arith) c.fetch.ensures.went;
-      how = read_one c.in-ok-fetch.field-0 c.requires.serving.roster c.requires.size.1 c.if-branch.true c.fetch.ensures.went
-          (subst (λ (p : ℕ). Answered (get_or ds p 0) c.args.s c.fetch.new.into c.in-ok-fetch.field-0 (g.D.Disks.shelf c.args.d.now) (g.D.Disks.shelf c.fetch.new.d)) c.place-of-p.ensures
-          c.in-ok-fetch.ensures.how);
+      how = read_one c.in_ok-fetch.field-0 c.requires.serving.roster c.requires.size.1 c.if-branch.true c.fetch.ensures.went
+          (subst (λ (p : ℕ). Answered (get_or ds p 0) c.args.s c.fetch.new.into c.in_ok-fetch.field-0 (g.D.Disks.shelf c.args.d.now) (g.D.Disks.shelf c.fetch.new.d)) c.place_of-p.ensures
+          c.in_ok-fetch.ensures.how);
     }

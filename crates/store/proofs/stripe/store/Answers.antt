@@ -14,29 +14,29 @@ use Rattle.store.proofs.Loads.{serving_went}
 use Rattle.store.proofs.Stores.{spread_held, stored_members, stored_fill, fills_extra, fill_held}
 use Rattle.store.proofs.stripe.store.Goals as goal
 
-pub returns-in-err-store-members : goal.returns-in-err-store-members
-returns-in-err-store-members g c =
+pub returns-in_err-store_members : goal.returns-in_err-store_members
+returns-in_err-store_members g c =
     let S = says c.args.b.now in
     record {
-      went = went_longer (omega arith) (spread_held (chosen c.args.which.now.columns) S c.args.s c.args.r (held (length S.members) c.args.stripe.now) c.requires.proper.roster c.store-members.ensures.went);
-      how = MatchResult-from_err c.from-residual.result _ _ c.from-residual.ensures.0 (λ _. c.in-err-store-members.ensures.how);
+      went = went_longer (omega arith) (spread_held (chosen c.args.which.now.columns) S c.args.s c.args.r (held (length S.members) c.args.stripe.now) c.requires.proper.roster c.store_members.ensures.went);
+      how = MatchResult-from_err c.from_residual.result _ _ c.from_residual.ensures.0 (λ _. c.in_err-store_members.ensures.how);
     }
 
-pub share-of-requires : goal.share-of-requires
-share-of-requires g c = c.requires.proper.joins
+pub share_of-requires : goal.share_of-requires
+share_of-requires g c = c.requires.proper.joins
 
-pub store-members-requires : goal.store-members-requires
-store-members-requires g c = record { left = omega (arith, c.requires.left); size = c.requires.size; serving = c.requires.serving; lent = c.requires.lent }
+pub store_members-requires : goal.store_members-requires
+store_members-requires g c = record { left = omega (arith, c.requires.left); size = c.requires.size; serving = c.requires.serving; lent = c.requires.lent }
 
 pub has-requires : goal.has-requires
 has-requires g c =
     let f = c.in-Some.ensures in let l = index_within 12 f.0 c.args.r (omega arith) f.1.2 in omega (arith, l, f.1.1)
 
-pub write-column-requires : goal.write-column-requires
-write-column-requires g c =
+pub write_column-requires : goal.write_column-requires
+write_column-requires g c =
     let f = c.in-Some.ensures in
     let l = index_within 12 f.0 c.args.r (omega arith) f.1.2 in
-    let w = c.store-members.ensures.went in
+    let w = c.store_members.ensures.went in
     record {
       left = omega (arith, w.spent, c.requires.left, fills_extra c.args.b.now.rebuild c.in-Some.share.disk f.0 c.args.r f.1.0);
       place = (omega (arith, w.deaths.size, c.requires.size), omega (arith, l, f.1.1));
@@ -45,34 +45,34 @@ write-column-requires g c =
     }
 
 -- the column of the disk that is being filled
-pub returns-in-err-write-column : goal.returns-in-err-write-column
-returns-in-err-write-column g c =
+pub returns-in_err-write_column : goal.returns-in_err-write_column
+returns-in_err-write_column g c =
     let S = says c.args.b.now in
     let sel = chosen c.args.which.now.columns in
     let f = c.in-Some.ensures in
     record {
       went =
           went_longer (omega (arith, fills_extra c.args.b.now.rebuild c.in-Some.share.disk f.0 c.args.r f.1.0))
-          (went_then (spread_held sel S c.args.s c.args.r (held (length S.members) c.args.stripe.now) c.requires.proper.roster c.store-members.ensures.went)
-          (fill_held sel S c.args.s c.args.r c.in-Some.share.disk f.0 _ f.1.0 (true-T (ap sel (sym f.1.1) ∙ sym c.if-has.ensures)) c.write-column.ensures.went));
-      how = MatchResult-from_err c.from-residual-in-err-write-column.result _ _ c.from-residual-in-err-write-column.ensures.0 (λ _. c.in-err-write-column.ensures.how);
+          (went_then (spread_held sel S c.args.s c.args.r (held (length S.members) c.args.stripe.now) c.requires.proper.roster c.store_members.ensures.went)
+          (fill_held sel S c.args.s c.args.r c.in-Some.share.disk f.0 _ f.1.0 (true-T (ap sel (sym f.1.1) ∙ sym c.if-has.ensures)) c.write_column.ensures.went));
+      how = MatchResult-from_err c.from_residual-in_err-write_column.result _ _ c.from_residual-in_err-write_column.ensures.0 (λ _. c.in_err-write_column.ensures.how);
     }
 
-pub returns-in-ok-write-column : goal.returns-in-ok-write-column
-returns-in-ok-write-column g c =
+pub returns-in_ok-write_column : goal.returns-in_ok-write_column
+returns-in_ok-write_column g c =
     let S = says c.args.b.now in
     let sel = chosen c.args.which.now.columns in
     let h = held (length S.members) c.args.stripe.now in
     let f = c.in-Some.ensures in
-    let w = c.in-ok-write-column.ensures.how in
+    let w = c.in_ok-write_column.ensures.how in
     record {
       went =
           went_longer (omega (arith, fills_extra c.args.b.now.rebuild c.in-Some.share.disk f.0 c.args.r f.1.0))
-          (went_then (spread_held sel S c.args.s c.args.r h c.requires.proper.roster c.store-members.ensures.went)
-          (fill_held sel S c.args.s c.args.r c.in-Some.share.disk f.0 _ f.1.0 (true-T (ap sel (sym f.1.1) ∙ sym c.if-has.ensures)) c.write-column.ensures.went));
+          (went_then (spread_held sel S c.args.s c.args.r h c.requires.proper.roster c.store_members.ensures.went)
+          (fill_held sel S c.args.s c.args.r c.in-Some.share.disk f.0 _ f.1.0 (true-T (ap sel (sym f.1.1) ∙ sym c.if-has.ensures)) c.write_column.ensures.went));
       how = (
         λ _. w.0,
-        stored_fill sel S c.args.s c.args.r h c.requires.proper.roster c.requires.proper c.in-ok-store-members.ensures.how c.in-Some.share.disk f.0 _ f.1.0 f.1.3 c.write-column.ensures.went
+        stored_fill sel S c.args.s c.args.r h c.requires.proper.roster c.requires.proper c.in_ok-store_members.ensures.how c.in-Some.share.disk f.0 _ f.1.0 f.1.3 c.write_column.ensures.went
             (ap (λ (k : ℕ). held k c.args.stripe.now c.in-Some.share.column) c.many.ensures.is.0 ∙ ap h f.1.1) w.1,
       );
     }
@@ -83,9 +83,9 @@ returns-else-has g c =
     let sel = chosen c.args.which.now.columns in
     let h = held (length S.members) c.args.stripe.now in
     let f = c.in-Some.ensures in
-    let m = c.in-ok-store-members.ensures.how in
+    let m = c.in_ok-store_members.ensures.how in
     record {
-      went = went_longer (omega arith) (spread_held sel S c.args.s c.args.r h c.requires.proper.roster c.store-members.ensures.went);
+      went = went_longer (omega arith) (spread_held sel S c.args.s c.args.r h c.requires.proper.roster c.store_members.ensures.went);
       how = (
         m.lit,
         stored_members sel S c.args.s c.args.r h c.requires.proper.roster m
@@ -95,13 +95,13 @@ returns-else-has g c =
       );
     }
 
-pub returns-in-default : goal.returns-in-default
-returns-in-default g c =
+pub returns-in_default : goal.returns-in_default
+returns-in_default g c =
     let S = says c.args.b.now in
     let sel = chosen c.args.which.now.columns in
     let h = held (length S.members) c.args.stripe.now in
-    let m = c.in-ok-store-members.ensures.how in
+    let m = c.in_ok-store_members.ensures.how in
     record {
-      went = went_longer (omega arith) (spread_held sel S c.args.s c.args.r h c.requires.proper.roster c.store-members.ensures.went);
-      how = (m.lit, stored_members sel S c.args.s c.args.r h c.requires.proper.roster m (λ d p q t. c.in-default.ensures d p q));
+      went = went_longer (omega arith) (spread_held sel S c.args.s c.args.r h c.requires.proper.roster c.store_members.ensures.went);
+      how = (m.lit, stored_members sel S c.args.s c.args.r h c.requires.proper.roster m (λ d p q t. c.in_default.ensures d p q));
     }

@@ -11,7 +11,7 @@ use Rattle.store.proofs.Laws.{went_longer}
 use Rattle.store.proofs.Loads.{serving_went}
 use Rattle.store.proofs.Stores.{count_more, count_below, storing_none, storing_skip, storing_more, storing_went, storing_is}
 use Rattle.store.proofs.stripe.store_members.Goals as goal
-use Rattle.store.proofs.stripe.store_members.Goals.{then-has+in-ok-lay, else-has}
+use Rattle.store.proofs.stripe.store_members.Goals.{then-has+in_ok-lay, else-has}
 
 pub loop-i-init : goal.loop-i-init
 loop-i-init g c = storing_none _ _ _ _ _ _ _
@@ -37,21 +37,21 @@ lay-requires g c =
     let most = count_below (c.loop-i.i + 1) (length ds) sel (omega arith) in
     record {
       left = omega (arith, w.spent, c.requires.left, one, most);
-      place = (omega (arith, b, c.place-of-p.ensures), omega (arith, w.deaths.size, c.requires.size));
+      place = (omega (arith, b, c.place_of-p.ensures), omega (arith, w.deaths.size, c.requires.size));
       serving = serving_went w ds c.args.members.now.dead c.requires.serving;
       lent = simp (length-take, length-drop) (omega (arith, l));
     }
 
-pub returns-in-err-lay : goal.returns-in-err-lay
-returns-in-err-lay g c =
+pub returns-in_err-lay : goal.returns-in_err-lay
+returns-in_err-lay g c =
     let ds = listed c.args.members.now.count c.args.members.now.disks in
     let sel = chosen c.args.which.now.columns in
     let l : c.loop-i.i < length ds = omega (arith, c.many-i-end.ensures.is.0) in
     let most = count_below (c.loop-i.i + 1) (length ds) sel (omega arith) in
-    let w = subst (λ (p : ℕ). Went 1 (Here (get_or ds p 0) c.args.s (lent_column c.loop-i.i c.args.stripe.now)) (g.D.Disks.shelf c.loop-i.d) (g.D.Disks.seen c.loop-i.d) (g.D.Disks.shelf c.lay.new.d) (g.D.Disks.seen c.lay.new.d)) c.place-of-p.ensures c.lay.ensures.went in
+    let w = subst (λ (p : ℕ). Went 1 (Here (get_or ds p 0) c.args.s (lent_column c.loop-i.i c.args.stripe.now)) (g.D.Disks.shelf c.loop-i.d) (g.D.Disks.seen c.loop-i.d) (g.D.Disks.shelf c.lay.new.d) (g.D.Disks.seen c.lay.new.d)) c.place_of-p.ensures c.lay.ensures.went in
     record {
       went = went_longer most (storing_went c.requires.serving.roster l c.loop-i.invariant _ (sym c.if-has.ensures) (words_are c.loop-i.i (length ds) c.args.stripe.now l) w);
-      how = MatchResult-from_err c.from-residual.result _ _ c.from-residual.ensures.0 (λ _. c.in-err-lay.ensures.how);
+      how = MatchResult-from_err c.from_residual.result _ _ c.from_residual.ensures.0 (λ _. c.in_err-lay.ensures.how);
     }
 
 pub loop-i-preserved : goal.loop-i-preserved
@@ -59,11 +59,11 @@ loop-i-preserved g c =
     let ds = listed c.args.members.now.count c.args.members.now.disks in
     let l : c.loop-i.i < length ds = omega (arith, c.many-i-end.ensures.is.0) in
     elim c.if-has.branch [
-      | then-has+in-ok-lay b ↦
-          let w = subst (λ (p : ℕ). Went 1 (Here (get_or ds p 0) c.args.s (lent_column c.loop-i.i c.args.stripe.now)) (g.D.Disks.shelf c.loop-i.d) (g.D.Disks.seen c.loop-i.d) (g.D.Disks.shelf b.lay.new.d) (g.D.Disks.seen b.lay.new.d)) b.place-of-p.ensures b.lay.ensures.went in
-          let shows = subst (λ (p : ℕ). Shows (g.D.Disks.shelf b.lay.new.d) (get_or ds p 0) c.args.s (lent_column c.loop-i.i c.args.stripe.now)) b.place-of-p.ensures b.in-ok-lay.ensures.how.1 in
+      | then-has+in_ok-lay b ↦
+          let w = subst (λ (p : ℕ). Went 1 (Here (get_or ds p 0) c.args.s (lent_column c.loop-i.i c.args.stripe.now)) (g.D.Disks.shelf c.loop-i.d) (g.D.Disks.seen c.loop-i.d) (g.D.Disks.shelf b.lay.new.d) (g.D.Disks.seen b.lay.new.d)) b.place_of-p.ensures b.lay.ensures.went in
+          let shows = subst (λ (p : ℕ). Shows (g.D.Disks.shelf b.lay.new.d) (get_or ds p 0) c.args.s (lent_column c.loop-i.i c.args.stripe.now)) b.place_of-p.ensures b.in_ok-lay.ensures.how.1 in
           rw b.d-is
-          (storing_more c.requires.serving.roster l c.loop-i.invariant _ (sym b.if-has.ensures) (words_are c.loop-i.i (length ds) c.args.stripe.now l) w b.in-ok-lay.ensures.how.0 shows)
+          (storing_more c.requires.serving.roster l c.loop-i.invariant _ (sym b.if-has.ensures) (words_are c.loop-i.i (length ds) c.args.stripe.now l) w b.in_ok-lay.ensures.how.0 shows)
       | else-has b ↦ rw b.d-is (storing_skip c.requires.serving.roster l c.loop-i.invariant (sym b.if-has.ensures))
     ]
 

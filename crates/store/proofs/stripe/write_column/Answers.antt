@@ -9,43 +9,43 @@ use Rattle.store.proofs.stripe.write_column.Goals as goal
 words_are : (i k : ℕ) (t : List ℕ) → i < k → take (64 * i + 64 - 64 * i) (drop (64 * i) t) ≡ held k t i
 words_are i k t l = let m : 64 * i + 64 - 64 * i ≡ 64 = omega arith in ap (λ (z : ℕ). take z (drop (64 * i) t)) m ∙ sym (held_in k t i l)
 
-pub write-sector-requires : goal.write-sector-requires
-write-sector-requires g c =
+pub write_sector-requires : goal.write_sector-requires
+write_sector-requires g c =
     record { may = ((c.requires.left, c.requires.employed.there, c.requires.place.0), c.requires.employed.used); lent = simp (length-take, length-drop) (omega (arith, c.requires.lent, c.if-i-k.true)) }
 
-pub write-sector-requires-else-i-k : goal.write-sector-requires-else-i-k
-write-sector-requires-else-i-k g c = record { may = ((c.requires.left, c.requires.employed.there, c.requires.place.0), c.requires.employed.used); lent = omega arith }
+pub write_sector-requires-else-i-k : goal.write_sector-requires-else-i-k
+write_sector-requires-else-i-k g c = record { may = ((c.requires.left, c.requires.employed.there, c.requires.place.0), c.requires.employed.used); lent = omega arith }
 
-pub returns-in-err-write-sector : goal.returns-in-err-write-sector
-returns-in-err-write-sector g c =
+pub returns-in_err-write_sector : goal.returns-in_err-write_sector
+returns-in_err-write_sector g c =
     record {
-      went = subst (λ (v : List ℕ). Went 1 (Here c.args.at c.args.s v) (g.D.Disks.shelf c.args.d.now) (g.D.Disks.seen c.args.d.now) (g.D.Disks.shelf c.write-sector.new.d) (g.D.Disks.seen c.write-sector.new.d))
-          (words_are c.args.i c.args.k c.args.stripe.now c.if-i-k.true) c.write-sector.ensures.went;
-      how = MatchResult-from_err c.from-residual.result _ _ c.from-residual.ensures.0 (λ _. c.in-err-write-sector.ensures.how);
+      went = subst (λ (v : List ℕ). Went 1 (Here c.args.at c.args.s v) (g.D.Disks.shelf c.args.d.now) (g.D.Disks.seen c.args.d.now) (g.D.Disks.shelf c.write_sector.new.d) (g.D.Disks.seen c.write_sector.new.d))
+          (words_are c.args.i c.args.k c.args.stripe.now c.if-i-k.true) c.write_sector.ensures.went;
+      how = MatchResult-from_err c.from_residual.result _ _ c.from_residual.ensures.0 (λ _. c.in_err-write_sector.ensures.how);
     }
 
-pub returns-in-err-write-sector-2 : goal.returns-in-err-write-sector-2
-returns-in-err-write-sector-2 g c =
+pub returns-in_err-write_sector-2 : goal.returns-in_err-write_sector-2
+returns-in_err-write_sector-2 g c =
     record {
-      went = subst (λ (v : List ℕ). Went 1 (Here c.args.at c.args.s v) (g.D.Disks.shelf c.args.d.now) (g.D.Disks.seen c.args.d.now) (g.D.Disks.shelf c.write-sector-else-i-k.new.d) (g.D.Disks.seen c.write-sector-else-i-k.new.d))
-          (sym (held_beyond c.args.k c.args.stripe.now c.args.i c.if-i-k.false)) c.write-sector-else-i-k.ensures.went;
-      how = MatchResult-from_err c.from-residual-in-err-write-sector-2.result _ _ c.from-residual-in-err-write-sector-2.ensures.0 (λ _. c.in-err-write-sector-2.ensures.how);
+      went = subst (λ (v : List ℕ). Went 1 (Here c.args.at c.args.s v) (g.D.Disks.shelf c.args.d.now) (g.D.Disks.seen c.args.d.now) (g.D.Disks.shelf c.write_sector-else-i-k.new.d) (g.D.Disks.seen c.write_sector-else-i-k.new.d))
+          (sym (held_beyond c.args.k c.args.stripe.now c.args.i c.if-i-k.false)) c.write_sector-else-i-k.ensures.went;
+      how = MatchResult-from_err c.from_residual-in_err-write_sector-2.result _ _ c.from_residual-in_err-write_sector-2.ensures.0 (λ _. c.in_err-write_sector-2.ensures.how);
     }
 
-pub returns-in-ok-write-sector : goal.returns-in-ok-write-sector
-returns-in-ok-write-sector g c =
+pub returns-in_ok-write_sector : goal.returns-in_ok-write_sector
+returns-in_ok-write_sector g c =
     let e = words_are c.args.i c.args.k c.args.stripe.now c.if-i-k.true in
-    let w = c.in-ok-write-sector.ensures.how in
+    let w = c.in_ok-write_sector.ensures.how in
     record {
-      went = subst (λ (v : List ℕ). Went 1 (Here c.args.at c.args.s v) (g.D.Disks.shelf c.args.d.now) (g.D.Disks.seen c.args.d.now) (g.D.Disks.shelf c.write-sector.new.d) (g.D.Disks.seen c.write-sector.new.d)) e c.write-sector.ensures.went;
-      how = (w.lit, subst (λ (v : List ℕ). Shows (g.D.Disks.shelf c.write-sector.new.d) c.args.at c.args.s v) e w.shows);
+      went = subst (λ (v : List ℕ). Went 1 (Here c.args.at c.args.s v) (g.D.Disks.shelf c.args.d.now) (g.D.Disks.seen c.args.d.now) (g.D.Disks.shelf c.write_sector.new.d) (g.D.Disks.seen c.write_sector.new.d)) e c.write_sector.ensures.went;
+      how = (w.lit, subst (λ (v : List ℕ). Shows (g.D.Disks.shelf c.write_sector.new.d) c.args.at c.args.s v) e w.shows);
     }
 
-pub returns-in-ok-write-sector-2 : goal.returns-in-ok-write-sector-2
-returns-in-ok-write-sector-2 g c =
+pub returns-in_ok-write_sector-2 : goal.returns-in_ok-write_sector-2
+returns-in_ok-write_sector-2 g c =
     let e = sym (held_beyond c.args.k c.args.stripe.now c.args.i c.if-i-k.false) in
-    let w = c.in-ok-write-sector-2.ensures.how in
+    let w = c.in_ok-write_sector-2.ensures.how in
     record {
-      went = subst (λ (v : List ℕ). Went 1 (Here c.args.at c.args.s v) (g.D.Disks.shelf c.args.d.now) (g.D.Disks.seen c.args.d.now) (g.D.Disks.shelf c.write-sector-else-i-k.new.d) (g.D.Disks.seen c.write-sector-else-i-k.new.d)) e c.write-sector-else-i-k.ensures.went;
-      how = (w.lit, subst (λ (v : List ℕ). Shows (g.D.Disks.shelf c.write-sector-else-i-k.new.d) c.args.at c.args.s v) e w.shows);
+      went = subst (λ (v : List ℕ). Went 1 (Here c.args.at c.args.s v) (g.D.Disks.shelf c.args.d.now) (g.D.Disks.seen c.args.d.now) (g.D.Disks.shelf c.write_sector-else-i-k.new.d) (g.D.Disks.seen c.write_sector-else-i-k.new.d)) e c.write_sector-else-i-k.ensures.went;
+      how = (w.lit, subst (λ (v : List ℕ). Shows (g.D.Disks.shelf c.write_sector-else-i-k.new.d) c.args.at c.args.s v) e w.shows);
     }

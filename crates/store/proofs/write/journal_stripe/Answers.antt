@@ -22,23 +22,23 @@ store-requires g c =
     let low = slot_low (S.generation + 1) in
     record {
       left = omega (arith, all, c.requires.left);
-      size = omega (arith, c.slot-of-slot.ensures, low.1, k.least);
+      size = omega (arith, c.slot_of-slot.ensures, low.1, k.least);
       proper = k.proper;
       serving = serving_kept c.args.b.now.members.dead k c.requires.marks;
       employed = k.employed;
       lent = c.requires.lent.0;
     }
 
-pub returns-in-err-store : goal.returns-in-err-store
-returns-in-err-store g c =
+pub returns-in_err-store : goal.returns-in_err-store
+returns-in_err-store g c =
     let S = says c.args.b.now in
     let w = c.store.ensures.went in
     let all = count_all (length S.members) (chosen c.all.result.columns) in
     record {
       deaths = w.deaths;
       spent = omega (arith, w.spent, all);
-      how = MatchResult-from_err c.from-residual.result _ _ c.from-residual.ensures.0
-          (λ _. unjournalled_first S c.args.r (held (length S.members) c.args.stripe.now) (chosen c.all.result.columns) c.slot-of-slot.ensures w c.in-err-store.ensures.how);
+      how = MatchResult-from_err c.from_residual.result _ _ c.from_residual.ensures.0
+          (λ _. unjournalled_first S c.args.r (held (length S.members) c.args.stripe.now) (chosen c.all.result.columns) c.slot_of-slot.ensures w c.in_err-store.ensures.how);
     }
 
 pub commit-requires : goal.commit-requires
@@ -66,11 +66,11 @@ returns g c =
     let v = c.commit.ensures.went in
     let all = count_all (length S.members) sel in
     let every = λ (d p : ℕ) (a : Holds S d p r). true-T (c.all.ensures (index p r) (index_within 12 p r (omega arith) (holds_low S k.proper d p r a))) in
-    let st = c.in-ok-store.ensures.how.1 in
+    let st = c.in_ok-store.ensures.how.1 in
     record {
       deaths = deaths_then w.deaths v.deaths;
       spent = omega (arith, w.spent, v.spent, all);
       how = MatchResult-weaker c.commit.result c.commit.ensures.how
-          (λ _ q. (refl, refl, journalled_now S r h sel c.slot-of-slot.ensures w every st c.requires.place v q))
-          (λ _ q. unjournalled_later S r h sel c.slot-of-slot.ensures w every st c.requires.place q);
+          (λ _ q. (refl, refl, journalled_now S r h sel c.slot_of-slot.ensures w every st c.requires.place v q))
+          (λ _ q. unjournalled_later S r h sel c.slot_of-slot.ensures w every st c.requires.place q);
     }
