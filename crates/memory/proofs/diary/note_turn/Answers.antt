@@ -12,4 +12,4 @@ returns-then-head c =
     }
 
 pub returns : goal.returns
-returns c = record { seen = λ t. c.note-word.ensures.seen t ∙ turn_head _; same = c.note-word.ensures.same }
+returns c = record { seen = λ t. c.note_word.ensures.seen t ∙ turn_head _; same = c.note_word.ensures.same }

@@ -20,6 +20,6 @@ returns-in-Refused c =
 pub returns-in-Told : goal.returns-in-Told
 returns-in-Told c =
     record {
-      read = λ x l e. ap (events_of Head) (stack c.push-in-Told.ensures.words (stack c.push-n-in-Told.ensures.words e)) ∙ told_head _ c.args.body c.args.tag x l c.requires.1 c.args.what c.in-Told.r _ _ c.in-Told.is c.code-reply-reply.ensures.small c.code-reply-reply.ensures.means refl;
+      read = λ x l e. ap (events_of Head) (stack c.push-in-Told.ensures.words (stack c.push-n-in-Told.ensures.words e)) ∙ told_head _ c.args.body c.args.tag x l c.requires.1 c.args.what c.in-Told.r _ _ c.in-Told.is c.code_reply-reply.ensures.small c.code_reply-reply.ensures.means refl;
       most = omega (arith, c.push-in-Told.ensures.many, c.push-n-in-Told.ensures.many);
     }

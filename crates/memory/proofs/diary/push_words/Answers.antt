@@ -12,6 +12,6 @@ returns-then-width-eq0 c =
 pub returns-else-width-eq0 : goal.returns-else-width-eq0
 returns-else-width-eq0 c =
     record {
-      read = λ f. wide_reads c.push-each.new.log c.args.log.now c.args.words.now c.args.n c.args.width f c.if-width-eq0.false c.requires.room.1 c.push-each.ensures.put c.push-each.ensures.before;
+      read = λ f. wide_reads c.push_each.new.log c.args.log.now c.args.words.now c.args.n c.args.width f c.if-width-eq0.false c.requires.room.1 c.push_each.ensures.put c.push_each.ensures.before;
       most = omega arith;
     }

@@ -17,17 +17,17 @@ returns-in-Some c = record {
       let o : lit c.args.log.now c.args.state.now ≡ true =
       lit_on _ _ _ (elim c.else-not-state.branch [ else-not-state-via-then-not-state+else-state-log w ↦ inr w.if-state-log.false | else-not-state-via-else-not-state w ↦ inl w.if-not-state.false ]) in
       went_goes cs c.args.log.now c.strike.new.log c.args.state.now c.strike.new.state _ _ o (c.strike.ensures.died cs) c.if-state-log-2.true;
-  timely = ap (λ (p : Plan). p.asks) c.in-Some.ensures.2.after ∙ (c.strike.ensures.timely.1 ∙ c.saturating-add-plan.ensures);
+  timely = ap (λ (p : Plan). p.asks) c.in-Some.ensures.2.after ∙ (c.strike.ensures.timely.1 ∙ c.saturating_add-plan.ensures);
 }
 
-pub returns-in-default : goal.returns-in-default
-returns-in-default c = record {
+pub returns-in_default : goal.returns-in_default
+returns-in_default c = record {
   went = λ cs.
       let o : lit c.args.log.now c.args.state.now ≡ true =
       lit_on _ _ _ (elim c.else-not-state.branch [ else-not-state-via-then-not-state+else-state-log w ↦ inr w.if-state-log.false | else-not-state-via-else-not-state w ↦ inl w.if-not-state.false ]) in
       stays _ _ (truth _ o) (c.strike.ensures.died cs);
-  timely = subst (λ (p : Plan). Timely c.args.plan.now Stays p (length c.strike.new.log ≤ c.strike.new.state.noted)) (sym c.in-default.ensures.0)
-      (c.strike.ensures.timely.1 ∙ c.saturating-add-plan.ensures, c.strike.ensures.timely.0, inl c.in-default.ensures.1);
+  timely = subst (λ (p : Plan). Timely c.args.plan.now Stays p (length c.strike.new.log ≤ c.strike.new.state.noted)) (sym c.in_default.ensures.0)
+      (c.strike.ensures.timely.1 ∙ c.saturating_add-plan.ensures, c.strike.ensures.timely.0, inl c.in_default.ensures.1);
 }
 
 pub returns-else-state-log-2 : goal.returns-else-state-log-2
@@ -36,5 +36,5 @@ returns-else-state-log-2 c = record {
       let o : lit c.args.log.now c.args.state.now ≡ true =
       lit_on _ _ _ (elim c.else-not-state.branch [ else-not-state-via-then-not-state+else-state-log w ↦ inr w.if-state-log.false | else-not-state-via-else-not-state w ↦ inl w.if-not-state.false ]) in
       stays _ _ (truth _ o) (c.strike.ensures.died cs);
-  timely = (c.strike.ensures.timely.1 ∙ c.saturating-add-plan.ensures, c.strike.ensures.timely.0, inr c.if-state-log-2.false);
+  timely = (c.strike.ensures.timely.1 ∙ c.saturating_add-plan.ensures, c.strike.ensures.timely.0, inr c.if-state-log-2.false);
 }

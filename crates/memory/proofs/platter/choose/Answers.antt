@@ -7,7 +7,7 @@ pub loop-i-init : goal.loop-i-init
 loop-i-init c = chosen_none c.args.cells.now c.args.seed
 
 pub loop-i-preserved : goal.loop-i-preserved
-loop-i-preserved c = c.choose-one.ensures c.args.cells.now c.loop-i.invariant
+loop-i-preserved c = c.choose_one.ensures c.args.cells.now c.loop-i.invariant
 
 pub returns : goal.returns
 returns c =

@@ -22,5 +22,5 @@ returns-else-not-self-d c =
     let w = stood _ _ (c.in-Stays.ensures.went c.args.self.now.cells.now) in
     subst (λ b. Reading (shelf_of c.args.self.now.cells.now c.args.self.now.log.now c.args.self.now.state) (seen_of c.args.self.now.log.now c.args.self.now.state.noted) c.args.d c.args.s b Answer.Fine
     (shelf_of c.args.self.now.cells.now c.asked-power.new.log c.asked-power.new.state) (seen_of c.asked-power.new.log c.asked-power.new.state.noted))
-    (shown_in c.args.self.now.cells.now c.args.d c.args.s c.requires.0.1 c.requires.0.2 ∙ sym c.copy-from-slice.ensures.after)
+    (shown_in c.args.self.now.cells.now c.args.d c.args.s c.requires.0.1 c.requires.0.2 ∙ sym c.copy_from_slice.ensures.after)
     (Reading.reads _ _ w.0 w.1 (truth _ c.if-not-self-d.false))

@@ -19,4 +19,4 @@ returns-then-not-self-d c =
 pub returns-else-not-self-d : goal.returns-else-not-self-d
 returns-else-not-self-d c =
     let w = stood _ _ (c.in-Stays.ensures.went c.args.self.now.cells.now) in
-    writing_done c.args.self.now.cells.now c.overwrite-self.new.cells c.args.self.now.state.written c.overwrite-self.result c.args.d c.args.s _ _ c.requires.0.0.1 c.requires.0.0.2 c.overwrite-self.ensures c.args.self.now.log.now c.asked-power.new.log c.args.self.now.state c.asked-power.new.state _ _ c.args.words.now c.sector-b.ensures refl (before_may c.args.self.now.cells.now _ _ c.lasts-at-once-at-once.result) w.0 w.1 (truth _ c.if-not-self-d.false)
+    writing_done c.args.self.now.cells.now c.overwrite-self.new.cells c.args.self.now.state.written c.overwrite-self.result c.args.d c.args.s _ _ c.requires.0.0.1 c.requires.0.0.2 c.overwrite-self.ensures c.args.self.now.log.now c.asked-power.new.log c.args.self.now.state c.asked-power.new.state _ _ c.args.words.now c.sector-b.ensures refl (before_may c.args.self.now.cells.now _ _ c.lasts_at_once-at_once.result) w.0 w.1 (truth _ c.if-not-self-d.false)
