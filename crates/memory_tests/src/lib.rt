@@ -44,8 +44,8 @@ pub fn settle(m: &mut Memory) -> Answer {
 
 // What wants a world as it starts, with nothing seen, and any disks.
 fn first_sight<W: Disks + World>(w: &mut W) -> u64
-    requires starts { AtStart (shelf w.old) }
-    requires unseen { seen w.old ≡ [] }
+    requires starts { AtStart (W.shelf w.old) }
+    requires unseen { W.seen w.old ≡ [] }
     ensures { (128 ≤ result) × (result ≤ 4294967296) }
 {
     w.sectors()

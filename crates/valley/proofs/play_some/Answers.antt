@@ -25,8 +25,8 @@ returns-then-n-rest g c =
 pub loop-rest-preserved : goal.loop-rest-preserved
 loop-rest-preserved g c =
     let l : c.fill-n.result < length c.loop-rest.rest.now = omega (arith, c.fill-n.ensures.bound) in (
-      omega (arith, c.saturating-add-number.ensures),
+      omega (arith, c.saturating_add-number.ensures),
       simp (length-take, length-drop) (omega arith),
-      omega (arith, newlines_next c.loop-rest.rest.now c.fill-n.result c.fill-n.ensures.many l, c.loop-rest.invariant, c.saturating-add-number.ensures),
+      omega (arith, newlines_next c.loop-rest.rest.now c.fill-n.result c.fill-n.ensures.many l, c.loop-rest.invariant, c.saturating_add-number.ensures),
       λ begun h. begun_next c.loop-rest.rest.now c.fill-n.result c.fill-n.ensures.many l _ _ _ c.clear.ensures (c.loop-rest.invariant.3 begun h),
     )
