@@ -1,5 +1,5 @@
 // The store on disks in lent memory, for programs in C and Rust, where no proof holds a caller to a contract: what doesn't fit is refused.
-// It touches nothing but what it is lent.
+// It touches nothing but what it is lent. The crate `export_c` exports it.
 #![tactic(auto)]
 
 ghost use Rattle.std.specs.Prelude.{◌≡◌, true, false, length};
@@ -27,8 +27,7 @@ fn fits(cells: usize, room: usize, words: usize, lives: u64, turns: u64) -> bool
 }
 
 // Plays the script on sixteen disks of noughts, and leaves what was seen in the log. False, and nothing is touched, where it doesn't fit.
-#[unsafe(no_mangle)]
-pub extern "C" fn store_years<'a>(
+pub fn store_years<'a>(
     cells: &'a mut [Cell],
     log: &'a mut [u64],
     script: &'a [u64],
