@@ -1,6 +1,6 @@
 -- Each sector of the store has a place of its own: a law of division.
 -- Assumes nothing.
-use Rattle.std.proofs.Common.{◌≡◌, ℕ, ◌+◌, ◌-◌, ◌*◌, ◌/◌, ◌%◌, ◌<◌, ◌≤◌, sym, refl, ap, ◌∙◌, subst, mod-lt, div-lt_iff_lt-mul, arith}
+use Rattle.std.proofs.Common.{◌≡◌, ℕ, ◌+◌, ◌-◌, ◌*◌, ◌/◌, ◌%◌, ◌<◌, sym, ap, ◌∙◌, mod-lt, div-lt_iff_lt-mul, arith}
 use native.Mathlib.Nat.{div-add-mod}
 use Rattle.layout.specs.Places.{place, index, column_of, stripe_of, Homes}
 use Rattle.layout.proofs.Turning.{index-place}

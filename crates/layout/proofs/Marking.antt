@@ -1,6 +1,6 @@
 -- Marks that are set: only the one that was asked for is new.
 -- Assumes nothing.
-use Rattle.std.proofs.Common.{◌≡◌, ℕ, Bool, true, false, cond, ◌||◌, T, eqb, ◌⊎◌, sym, refl, subst, inl, inr}
+use Rattle.std.proofs.Common.{◌≡◌, ℕ, Bool, true, false, ◌||◌, T, eqb, ◌⊎◌, sym, refl, subst, inl, inr}
 use Rattle.std.proofs.lemmas.Bool.{eqb-true, cases_Bool}
 use Rattle.layout.specs.Members.{marked, with_mark}
 use Rattle.layout.specs.declared.members.Marks.{Marks}

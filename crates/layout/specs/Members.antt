@@ -1,6 +1,6 @@
 -- Who the members are, by place, and which places are known to have a dead disk.
 -- Assumes nothing.
-use Rattle.std.specs.Prelude.{◌≡◌, ℕ, ◌<◌, ◌≤◌, Bool, true, false, cond, ◌||◌, List, length, take, Some, None, Option, ◌==◌, ◌≢◌, slice_index}
+use Rattle.std.specs.Prelude.{◌≡◌, ℕ, ◌<◌, ◌≤◌, Bool, false, cond, ◌||◌, List, length, take, Some, None, Option, ◌==◌, ◌≢◌, slice_index}
 use Rattle.layout.specs.declared.members.Marks.{Marks}
 use Rattle.layout.specs.declared.members.Marks.TheVariants.{Nobody, One, Two}
 

@@ -1,10 +1,10 @@
 -- The words of the log, and the events that they are.
-use Rattle.std.proofs.Common.{◌≡◌, ℕ, zero, suc, ◌+◌, ◌-◌, ◌*◌, ◌/◌, ◌%◌, ◌<◌, ◌≤◌, ◌≢◌, List, [], ◌∷◌, ◌++◌, length, get_or, take, set, replicate, sym, refl, ap, ◌∙◌, subst, add-zero, add-suc, add-one, arith, get_or-set_other, get_or-set_same}
+use Rattle.std.proofs.Common.{◌≡◌, ℕ, zero, suc, ◌+◌, ◌-◌, ◌*◌, ◌/◌, ◌%◌, ◌<◌, ◌≤◌, ◌≢◌, List, [], ◌∷◌, ◌++◌, length, get_or, take, set, replicate, sym, refl, ap, ◌∙◌, add-zero, add-suc, add-one, arith, get_or-set_other, get_or-set_same}
 use Rattle.std.proofs.lemmas.List.{append_assoc, append-nil, take_more, take_all}
 use Rattle.store.specs.Event.{Event}
 use Rattle.store.specs.declared.Ask.{Ask}
 use Rattle.store.specs.declared.Reply.{Reply}
-use Rattle.memory.specs.Words.{ask_of, reply_of, Await, Head, Number, Same, Each, words, awaits, turns_on, fronts, events_of, latest, seen_of, event_of}
+use Rattle.memory.specs.Words.{ask_of, reply_of, Head, Same, Each, words, awaits, turns_on, fronts, events_of, latest, seen_of, event_of}
 use Rattle.memory.specs.declared.diary.What.{What}
 use Rattle.memory.specs.declared.diary.What.TheVariants.{Asked, Refused, Told}
 

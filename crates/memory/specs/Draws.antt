@@ -1,5 +1,5 @@
 -- The pseudo-random sequence that a cut draws from: SplitMix64. Its k-th number, counted from 0, for the number S that it starts from.
-use Rattle.std.specs.Prelude.{◌≡◌, ℕ, ◌+◌, ◌*◌, ◌/◌, ◌%◌, ◌^◌, Bool, cond, ◌&&◌, List, length, bit_xor, nat_le, slice_index_or}
+use Rattle.std.specs.Prelude.{◌≡◌, ℕ, ◌+◌, ◌*◌, ◌/◌, ◌%◌, ◌^◌, cond, ◌&&◌, List, length, bit_xor, nat_le, slice_index_or}
 use Rattle.memory.specs.declared.Cell.{Cell}
 use Rattle.memory.specs.Held.{waits, empty}
 

@@ -1,6 +1,5 @@
 -- What the four words of a script's step say: what it is, and three numbers.
 use Rattle.std.specs.Prelude.{ℕ, zero, suc, min}
-use Rattle.store.specs.declared.Ask.{Ask}
 use Rattle.store.specs.declared.Ask.TheVariants.{Read, Write, Flush, Size, Add, Replace}
 use Rattle.memory.specs.declared.fate.Fate.TheVariants.{Dies, Cut}
 use Rattle.memory.specs.declared.script.Step.{Step}

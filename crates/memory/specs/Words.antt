@@ -2,7 +2,7 @@
 -- An event is a few words, of which the last is its head, so the log is read from its end. A head h says by h % 8 what it is, and by h / 8 more:
 -- 0: so many turns; 1: that disk died; 2: a cut. 3, 4, 5: something was asked, refused or told. The word before such a head is, for 4 and 5,
 -- why or what was told; the word before that, what was asked; and before that stands the one word that all 64 are, or all 64.
-use Rattle.std.specs.Prelude.{ℕ, zero, suc, ◌+◌, ◌*◌, ◌/◌, ◌%◌, ◌^◌, List, [], ◌∷◌, length, replicate, slice_index}
+use Rattle.std.specs.Prelude.{ℕ, zero, suc, ◌/◌, ◌%◌, ◌^◌, List, [], ◌∷◌, replicate, slice_index}
 use Rattle.store.specs.Event.{Event}
 use Rattle.store.specs.declared.Ask.{Ask}
 use Rattle.store.specs.declared.Ask.TheVariants.{Read, Write, Flush, Size, Add, Replace}

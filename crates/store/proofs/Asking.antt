@@ -1,20 +1,18 @@
 -- What `ask` answers, and what it leaves.
 -- Assumes nothing.
-use Rattle.std.proofs.Common.{◌≡◌, ℕ, zero, suc, ◌+◌, ◌-◌, ◌*◌, ◌%◌, ◌<◌, ◌≤◌, Bool, true, false, cond, not, ◌&&◌, ◌||◌, T, eqb, ltb, leb, ◌⊎◌, List, [], ◌∷◌, length, get_or, set, Some, None, Option, sym, refl, ap, ◌∙◌, subst, inl, inr, suc-le-suc, zero-le, arith, get_or-set_other, get_or-set_same}
-use Rattle.std.proofs.lemmas.Bool.{cases_Bool, cases_eq, cases_lt, eq-eqb, ne_eqb, cond-true, cond-false, le-leb, lt-leb, le-ltb, or_left, or_from, false≢true}
+use Rattle.std.proofs.Common.{◌≡◌, ℕ, zero, suc, ◌+◌, ◌%◌, ◌<◌, ◌≤◌, Bool, true, false, cond, not, ◌||◌, T, eqb, ltb, leb, List, ◌∷◌, length, set, Some, None, Option, sym, refl, ap, ◌∙◌, subst, inl, inr, arith, get_or-set_other, get_or-set_same}
+use Rattle.std.proofs.lemmas.Bool.{cases_Bool, cases_eq, cases_lt, eq-eqb, ne_eqb, cond-true, cond-false, le-leb, lt-leb, le-ltb, or_left, or_from}
 use Rattle.field.specs.Stripe.{column}
-use Rattle.layout.specs.Super.{says}
 use Rattle.store.specs.Event.{Event, Asked, Refused}
 use Rattle.store.specs.Shelf.{Shelf, takes_in, told_of}
 use Rattle.store.specs.Store.{Seen, Way, Free, Under, Over, free, why, wrong, size_of, core, begins, set_way, set_disks, Run, asks, refuses}
 use Rattle.store.specs.Promise.{can, said}
 use Rattle.store.specs.Tags.{at, is_open, Entry, Waits, Reaches, beyond, refusal_of}
-use Rattle.store.specs.Between.{ticks, Explains, Standing, Table, Serving, answered}
+use Rattle.store.specs.Between.{ticks, Table, Serving, answered}
 use Rattle.store.specs.declared.Ask.{Ask}
 use Rattle.store.specs.declared.Ask.TheVariants.{Read, Write, Flush, Size, Add, Replace}
 use Rattle.store.specs.declared.Reply.{Reply}
 use Rattle.store.specs.declared.Store.{Store}
-use Rattle.store.proofs.Histories.{is_built}
 
 -- ---- what reads, writes, flushes and sizes take in, and leave: nothing
 

@@ -1,15 +1,14 @@
 -- A blank shelf is a store's: its superblock is the blank one, and every column is noughts.
 -- Assumes nothing.
-use Rattle.std.proofs.Common.{◌≡◌, ℕ, zero, suc, ◌+◌, ◌<◌, ◌≤◌, ◌⊎◌, List, [], ◌∷◌, length, get_or, replicate, sym, refl, ap, ◌∙◌, subst, inl, inr, arith}
+use Rattle.std.proofs.Common.{◌≡◌, ℕ, zero, suc, ◌+◌, ◌<◌, List, [], ◌∷◌, get_or, replicate, sym, refl, ap, ◌∙◌, inl, inr, arith}
 use mathlib.Core.List.Memᴰ
 use mathlib.Core.List.{Memᴰ}
-use Rattle.layout.specs.Members.{Roster}
-use Rattle.layout.specs.Super.{Super, super_of, blank, Proper}
+use Rattle.layout.specs.Super.{super_of, blank, Proper}
 use Rattle.layout.proofs.Coding.{unmarked_says}
-use Rattle.store.specs.Shelf.{Shelf, AtStart, count}
-use Rattle.store.specs.Durable.{found, Among, Steady, Employed}
-use Rattle.store.specs.Keeping.{Columns, Holds, Kept, Sound, Ready}
-use Rattle.store.specs.Recovers.{empty, Begins}
+use Rattle.store.specs.Shelf.{Shelf, AtStart}
+use Rattle.store.specs.Durable.{found}
+use Rattle.store.specs.Keeping.{Holds, Kept, Ready}
+use Rattle.store.specs.Recovers.{empty}
 use Rattle.store.proofs.Laws.{start_steady, start_employed}
 
 four : (p : ℕ) → p < 4 → get_or (0 ∷ 1 ∷ 2 ∷ 3 ∷ []) p 0 ≡ p

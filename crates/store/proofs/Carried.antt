@@ -1,14 +1,14 @@
 -- What is carried from one sector to another, disk by disk: the journalled stripe to its place.
 -- Assumes nothing.
-use Rattle.std.proofs.Common.{◌≡◌, ℕ, ◌+◌, ◌<◌, ◌≤◌, Bool, true, false, T, ◌⊎◌, List, length, get_or, Some, None, Option, sym, refl, ap, ◌∙◌, subst, inl, inr, ⊎_elim, arith, below_more}
+use Rattle.std.proofs.Common.{◌≡◌, ℕ, ◌+◌, ◌<◌, true, false, T, ◌⊎◌, List, length, get_or, Some, None, Option, sym, refl, ◌∙◌, subst, inl, inr, arith, below_more}
 use Rattle.std.proofs.lemmas.Bool.{cases_eq}
 use Rattle.layout.specs.Places.{index}
-use Rattle.layout.specs.Super.{Super, super_of}
+use Rattle.layout.specs.Super.{Super}
 use Rattle.layout.specs.declared.superblock.Rebuild.{Rebuild}
 use Rattle.store.specs.Event.{Event}
 use Rattle.store.specs.Shelf.{Shelf}
 use Rattle.store.specs.Durable.{Among, Shows, Nowhere, Here, Went}
-use Rattle.store.specs.Keeping.{Columns, slot, home, Fills, Holds, Inside, Kept, Sound, Placed}
+use Rattle.store.specs.Keeping.{Columns, slot, Fills, Inside, Kept, Sound, Placed}
 use Rattle.store.specs.Recovers.{Only, Level, Moved, Moving, Across, Brought}
 use Rattle.store.proofs.Laws.{went_none, went_then, went_wider, went_anywhere, went_longer, shows_went, shows_among}
 use Rattle.store.proofs.Standing.{slot_low, home_journal, home_placed, sound_went}

@@ -1,15 +1,15 @@
 -- Which of two candidates is found among the disks, and that it is right.
 -- Assumes nothing.
-use Rattle.std.proofs.Common.{◌≡◌, ℕ, ◌+◌, ◌<◌, ◌≤◌, Bool, true, false, cond, T, leb, ◌≢◌, ◌⊎◌, List, length, get_or, sym, refl, ap, ◌∙◌, subst, inl, inr, ⊎_elim, arith, below_more}
+use Rattle.std.proofs.Common.{◌≡◌, ℕ, ◌+◌, ◌<◌, ◌≤◌, true, false, T, leb, ◌≢◌, ◌⊎◌, List, get_or, sym, refl, ap, ◌∙◌, subst, inl, inr, ⊎_elim, arith, below_more}
 use mathlib.Core.List.Memᴰ
 use Rattle.std.proofs.lemmas.Bool.{cases_Bool, cases_eq, leb-true, leb-false}
 use Rattle.layout.specs.Super.{Super, super_of, Proper}
 use Rattle.store.specs.Event.{Event}
 use Rattle.store.specs.Shelf.{Shelf}
-use Rattle.store.specs.Durable.{Among, Shows, Settled, Steady, Employed, Nowhere, Went}
-use Rattle.store.specs.Keeping.{Columns, Holds, Kept, UpTo, Sound, Torn}
+use Rattle.store.specs.Durable.{Among, Employed, Nowhere, Went}
+use Rattle.store.specs.Keeping.{Columns, Kept, UpTo, Sound, Torn}
 use Rattle.store.specs.Commits.{Heading, Headed}
-use Rattle.store.specs.Recovers.{newer, Newest, Looked, Recovered, Lapsed}
+use Rattle.store.specs.Recovers.{newer, Looked, Recovered, Lapsed}
 use Rattle.store.proofs.Truths.{true-T}
 use Rattle.store.proofs.Counting.{no_third}
 use Rattle.store.proofs.Laws.{went_none, went_then, among_settled, among_weaker, dead_stays}

@@ -2,7 +2,7 @@
 -- Assumes nothing.
 use Rattle.std.proofs.Common.{◌≡◌, ℕ, zero, suc, ◌+◌, ◌<◌, ◌≤◌, Bool, true, false, cond, not, ◌&&◌, ◌||◌, T, eqb, ◌≢◌, ◌⊎◌, sym, refl, ap, ◌∙◌, subst, inl, inr, ⊎_elim, arith}
 use Rattle.std.proofs.lemmas.Bool.{cases_Bool, cases_eq, eqb-true, eq-eqb, ne_eqb}
-use Rattle.store.specs.Shelf.{Shelf, weak, count}
+use Rattle.store.specs.Shelf.{Shelf, count}
 use Rattle.store.specs.Durable.{Steady, Employed}
 use Rattle.store.proofs.Truths.{T_true, and_T}
 

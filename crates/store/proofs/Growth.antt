@@ -1,6 +1,6 @@
 -- The store never loses a disk's worth: before each event there was a run with no more disks.
 -- Assumes nothing.
-use Rattle.std.proofs.Common.{◌≡◌, ℕ, ◌+◌, ◌-◌, ◌*◌, ◌≤◌, Bool, List, [], ◌∷◌, ◌++◌, length, mul-le-mul, arith, length-append}
+use Rattle.std.proofs.Common.{ℕ, ◌-◌, ◌≤◌, Bool, List, [], ◌∷◌, length, mul-le-mul, arith, length-append}
 use Rattle.store.specs.Event.{Event}
 use Rattle.store.specs.declared.Ask.{Ask}
 use Rattle.store.specs.Store.{Seen, Change, None', Adding, Replacing, Run, new, asks, refuses, dies, reads, writes, flushes, sizes, finishes, done, gives_up, tells, drops, turns, cuts, changed, size_of}

@@ -1,12 +1,12 @@
 -- Telling three members of a superblock, and committing it.
 -- Assumes nothing.
-use Rattle.std.proofs.Common.{◌≡◌, ℕ, ◌+◌, ◌<◌, ◌≤◌, Bool, true, false, ◌⊎◌, List, length, get_or, sym, refl, ap, ◌∙◌, subst, inl, inr, arith, below_more}
+use Rattle.std.proofs.Common.{◌≡◌, ℕ, ◌+◌, ◌<◌, false, List, get_or, ap, ◌∙◌, subst, inl, inr, arith, below_more}
 use Rattle.std.proofs.lemmas.Bool.{cases_eq}
 use Rattle.layout.specs.Super.{Super, super_of}
 use Rattle.store.specs.Event.{Event}
 use Rattle.store.specs.Shelf.{Shelf}
-use Rattle.store.specs.Durable.{Among, Shows, Settled, Nowhere, Here, Went, Synced}
-use Rattle.store.specs.Keeping.{Columns, Kept, Sound, Torn}
+use Rattle.store.specs.Durable.{Shows, Settled, Nowhere, Here, Went, Synced}
+use Rattle.store.specs.Keeping.{Columns, Sound, Torn}
 use Rattle.store.specs.Commits.{Heading, Copying, Headed, After, Committed, Interrupted}
 use Rattle.store.proofs.Laws.{went_none, went_then, went_wider, went_anywhere, shows_went, among_synced, among_weaker}
 use Rattle.store.proofs.Standing.{sound_went, torn_went, sound_torn, torn_new}

@@ -1,15 +1,15 @@
 -- What a history keeps of itself, and what deaths and a cut add to it.
 -- Assumes nothing.
-use Rattle.std.proofs.Common.{◌≡◌, ℕ, zero, suc, ◌+◌, ◌-◌, ◌*◌, ◌<◌, ◌≤◌, Bool, true, false, cond, not, ◌||◌, T, eqb, ltb, ◌⊎◌, List, [], ◌∷◌, length, sym, refl, ap, ◌∙◌, subst, inl, inr, zero-le, arith}
+use Rattle.std.proofs.Common.{◌≡◌, ℕ, ◌+◌, ◌≤◌, Bool, true, false, cond, not, ◌||◌, T, eqb, ltb, List, [], ◌∷◌, sym, refl, ap, ◌∙◌, subst, inl, inr, zero-le, arith}
 use Rattle.std.proofs.lemmas.Bool.{cond_both, eqb-true}
 use Rattle.layout.specs.Super.{Super}
-use Rattle.store.specs.Event.{Event, Died, Cut}
+use Rattle.store.specs.Event.{Event, Cut}
 use Rattle.store.specs.Shelf.{Shelf}
 use Rattle.store.specs.Store.{Seen, Way, Free, Under, Over, Change, None', is_none, begins, core, grown, older, set_way, set_disks, new_content, lasting, left, Run, new, asks, refuses, dies, reads, writes, flushes, sizes, finishes, done, gives_up, tells, drops, turns, cuts}
 use Rattle.store.specs.Promise.{can}
 use Rattle.store.specs.Durable.{Deaths, fell}
 use Rattle.store.specs.Keeping.{Columns}
-use Rattle.store.specs.Between.{ticks, Matches, Explains}
+use Rattle.store.specs.Between.{ticks, Explains}
 use Rattle.store.specs.declared.Ask.{Ask}
 use Rattle.store.specs.declared.Ask.TheVariants.{Read, Write, Flush, Size, Add, Replace}
 use Rattle.store.specs.declared.Reply.{Reply}

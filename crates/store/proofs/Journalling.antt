@@ -1,6 +1,6 @@
 -- A stripe in the journal, committed, and in its place: what keeps what.
 -- Assumes nothing.
-use Rattle.std.proofs.Common.{◌≡◌, ℕ, ◌+◌, ◌^◌, ◌<◌, ◌≤◌, Bool, true, false, T, ◌⊎◌, List, length, get_or, Some, None, Option, sym, refl, ap, ◌∙◌, subst, inl, inr, ⊎_elim, arith}
+use Rattle.std.proofs.Common.{◌≡◌, ℕ, ◌+◌, ◌^◌, ◌<◌, Bool, true, false, T, List, Some, None, Option, sym, ap, ◌∙◌, subst, inl, inr, ⊎_elim, arith}
 use Rattle.std.proofs.lemmas.Bool.{cases_Bool}
 use Rattle.layout.specs.declared.superblock.Rebuild.{Rebuild}
 use Rattle.layout.specs.Places.{index}
@@ -8,11 +8,11 @@ use Rattle.layout.specs.Super.{Super, Joins, Proper}
 use Rattle.layout.specs.declared.members.Marks.{Marks}
 use Rattle.store.specs.Event.{Event}
 use Rattle.store.specs.Shelf.{Shelf}
-use Rattle.store.specs.Durable.{Among, Shows, Settled, Nowhere, Went}
-use Rattle.store.specs.Keeping.{Columns, slot, home, Fills, Holds, Kept, Sound, Torn, Placed, Ready, Left}
+use Rattle.store.specs.Durable.{Among, Shows, Went}
+use Rattle.store.specs.Keeping.{Columns, slot, Fills, Holds, Kept, Sound, Ready}
 use Rattle.store.specs.Commits.{Heading, After, Committed, Interrupted}
 use Rattle.store.specs.Stripes.{Serving, Held, Stored}
-use Rattle.store.specs.Writes.{MarksTrue, journalling, InPlace, Changes, Journalled, Unjournalled, Placing, Unplaced}
+use Rattle.store.specs.Writes.{MarksTrue, journalling, Changes, Journalled, Unjournalled, Placing, Unplaced}
 use Rattle.store.proofs.Truths.{true-T}
 use Rattle.store.proofs.Laws.{shows_went, shows_among, among_settled, among_synced}
 use Rattle.store.proofs.Standing.{member_holds, slot_low, home_staged, home_placed, kept_went, sound_went, placed_went, all_shown, in_place_synced, kept_journalling}

@@ -1,12 +1,12 @@
 -- The laws of the shelf: what each asking of the disks, a cut and the power's return come to, in the words of specs/Durable.antt. Nothing above this file
 -- opens what the shelf says of a reading, a writing, a sync, a death or a return.
 -- Assumes nothing.
-use Rattle.std.proofs.Common.{◌≡◌, ℕ, zero, suc, ◌+◌, ◌-◌, ◌<◌, ◌≤◌, Bool, true, false, cond, not, ◌&&◌, ◌||◌, T, eqb, ltb, ◌⊎◌, List, [], ◌∷◌, ◌++◌, sym, refl, ap, ◌∙◌, subst, inl, inr, ⊎_elim, arith}
+use Rattle.std.proofs.Common.{◌≡◌, ℕ, ◌+◌, ◌<◌, ◌≤◌, Bool, true, false, not, ◌&&◌, ◌||◌, T, eqb, ◌⊎◌, List, [], ◌∷◌, ◌++◌, sym, refl, ap, ◌∙◌, subst, inl, inr, ⊎_elim, arith}
 use mathlib.Core.List.{Memᴰ}
 use lib.Dec.{eqb_refl}
 use Rattle.std.proofs.lemmas.Bool.{cases_Bool, eqb-true, and_parts, lt-ltb}
 use Rattle.store.specs.Event.{Event, Died}
-use Rattle.store.specs.Shelf.{Shelf, weak, count, MayDie, died, Dies, none, one, at, shelf, counted, dark, Within, Reading, Writing, Syncing, Back, AtStart, allowed}
+use Rattle.store.specs.Shelf.{Shelf, weak, MayDie, died, Dies, none, one, at, shelf, counted, dark, Within, Reading, Writing, Syncing, Back, AtStart}
 use Rattle.store.specs.Durable.{found, Among, Shows, Settled, Steady, Employed, Nowhere, Here, fell, Deaths, Went, Heard, Wrote, Synced, Returned}
 use Rattle.store.specs.declared.Answer.{Answer}
 use Rattle.store.specs.declared.Answer.TheVariants.{Fine, Dead, Dark}

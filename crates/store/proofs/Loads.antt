@@ -1,26 +1,26 @@
 -- A stripe, read column by column, of which no three can be missing.
 -- Assumes nothing.
-use Rattle.std.proofs.Common.{◌≡◌, ℕ, ◌+◌, ◌-◌, ◌*◌, ◌<◌, ◌≤◌, Bool, true, false, T, ◌≢◌, ◌⊎◌, List, length, get_or, sym, refl, ap, ◌∙◌, subst, inl, inr, arith}
+use Rattle.std.proofs.Common.{◌≡◌, ℕ, ◌+◌, ◌*◌, ◌<◌, ◌≤◌, Bool, true, false, T, ◌≢◌, List, length, get_or, sym, refl, ap, ◌∙◌, subst, inl, inr, arith}
 use borrow.Rule.Slice.PartMut.{put_mid}
-use Rattle.field.specs.Stripe.{column, Codeword, Lies}
+use Rattle.field.specs.Stripe.{column}
 use Rattle.field.specs.Missing.{and_also, Known, Mends}
 use Rattle.field.specs.declared.missing.Missing.{Missing}
 use Rattle.field.specs.declared.missing.Missing.TheVariants.{Nothing, One, Two}
 use Rattle.field.proofs.Slices.{written}
 use Rattle.field.proofs.Missings.{known_here, known_missing, known_weaker}
 use Rattle.layout.specs.Places.{place, index}
-use Rattle.layout.specs.Members.{Roster, marked, with_mark}
+use Rattle.layout.specs.Members.{Roster, with_mark}
 use Rattle.layout.specs.declared.members.Marks.{Marks}
 use Rattle.layout.proofs.Turning.{place_within, index-place, place_apart}
 use Rattle.layout.proofs.Marking.{marked_more}
 use Rattle.store.specs.Event.{Event}
 use Rattle.store.specs.Shelf.{Shelf}
-use Rattle.store.specs.Durable.{Nowhere, Went, Heard, Shows}
+use Rattle.store.specs.Durable.{Nowhere, Went, Heard}
 use Rattle.store.specs.Stripes.{Serving, Shown, disk_of, Answered, Each, Loading, Loaded, Read, learned}
 use Rattle.store.specs.Writes.{MarksTrue}
 use Rattle.store.proofs.Truths.{true-T}
 use Rattle.store.proofs.Counting.{no_third}
-use Rattle.store.proofs.Laws.{went_none, went_then, went_longer, shows_went, dead_stays}
+use Rattle.store.proofs.Laws.{went_none, went_then, shows_went, dead_stays}
 use Rattle.store.proofs.Standing.{members_apart}
 
 -- whoever serves goes on to, while nothing but deaths happens

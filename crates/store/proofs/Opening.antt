@@ -1,6 +1,6 @@
 -- The power goes and comes back, and the store comes up: what was explained stays so.
 -- Assumes nothing.
-use Rattle.std.proofs.Common.{◌≡◌, ℕ, zero, suc, ◌+◌, ◌-◌, ◌*◌, ◌%◌, ◌<◌, ◌≤◌, Bool, true, false, T, ◌⊎◌, List, [], ◌∷◌, length, get_or, replicate, Some, None, Option, sym, refl, ap, ◌∙◌, subst, inl, inr, ⊎_elim, arith}
+use Rattle.std.proofs.Common.{◌≡◌, ℕ, zero, suc, true, false, List, [], ◌∷◌, get_or, replicate, None, Option, sym, refl, ap, ◌∙◌, subst, inl, inr, arith}
 use Rattle.field.proofs.Codewords.{blank}
 use Rattle.layout.specs.Super.{Super, says}
 use Rattle.layout.specs.declared.members.Marks.{Marks}
@@ -11,11 +11,11 @@ use Rattle.store.specs.Shelf.{Shelf, Back, AtStart, allowed}
 use Rattle.field.specs.Stripe.{column}
 use Rattle.store.specs.Store.{Seen, Way, Free, size_of, fresh, new}
 use Rattle.store.specs.Durable.{Deaths, Went, Nowhere}
-use Rattle.store.specs.Keeping.{Columns, Torn, Ready, Left}
+use Rattle.store.specs.Keeping.{Columns, Ready, Left}
 use Rattle.store.specs.Recovers.{Up, Down, empty}
 use Rattle.store.specs.Writes.{MarksTrue}
 use Rattle.store.specs.Tags.{at, Entry, Waits}
-use Rattle.store.specs.Between.{ticks, Explains, Lost, Recoverable, Standing, Table, Serving}
+use Rattle.store.specs.Between.{ticks, Explains, Lost, Recoverable, Serving}
 use Rattle.store.specs.declared.Ask.{Ask}
 use Rattle.store.specs.declared.Store.{Store}
 use Rattle.store.specs.declared.tags.Tags.{Tags}

@@ -1,6 +1,6 @@
 -- What a turn does for a tag, against what is seen: a read, a write, a flush, a size, and the power going meanwhile.
 -- Assumes nothing.
-use Rattle.std.proofs.Common.{◌≡◌, ℕ, zero, suc, ◌+◌, ◌-◌, ◌*◌, ◌%◌, ◌<◌, ◌≤◌, Bool, true, false, cond, ◌&&◌, T, eqb, ◌⊎◌, List, [], ◌∷◌, length, get_or, take, drop, Some, None, Option, sym, refl, ap, ◌∙◌, subst, inl, inr, arith, length-drop, length-take-le}
+use Rattle.std.proofs.Common.{◌≡◌, ℕ, ◌+◌, ◌-◌, ◌*◌, ◌<◌, ◌≤◌, true, false, cond, ◌&&◌, T, eqb, List, [], ◌∷◌, length, take, drop, Some, None, Option, sym, refl, ap, ◌∙◌, subst, inl, inr, arith, length-drop, length-take-le}
 use lib.Dec.{eqb_refl}
 use borrow.Rule.Slice.PartMut.{put_mid}
 use Rattle.std.proofs.lemmas.Slice.{between_is, take-put_mid_below}
@@ -17,13 +17,12 @@ use Rattle.store.specs.Promise.{can}
 use Rattle.store.specs.Durable.{Deaths}
 use Rattle.store.specs.Keeping.{Columns, Sound, Ready}
 use Rattle.store.specs.Writes.{MarksTrue, journalling}
-use Rattle.store.specs.Sectors.{sector_of, Coded, Rewrites, Saved, Unsaved}
+use Rattle.store.specs.Sectors.{sector_of, Rewrites, Saved, Unsaved}
 use Rattle.store.specs.Tags.{at, Entry, Reaches}
-use Rattle.store.specs.Between.{ticks, Matches, Explains, Lost, Standing, Table, Serving, Performed}
+use Rattle.store.specs.Between.{Explains, Lost, Serving, Performed}
 use Rattle.store.specs.declared.Ask.{Ask}
-use Rattle.store.specs.declared.Ask.TheVariants.{Read, Write, Flush, Size, Add, Replace}
-use Rattle.store.specs.declared.Reply.{Reply}
-use Rattle.store.specs.declared.Reply.TheVariants.{Done, Bytes, Many, No}
+use Rattle.store.specs.declared.Ask.TheVariants.{Read, Write, Flush, Size}
+use Rattle.store.specs.declared.Reply.TheVariants.{Done, Bytes, Many}
 use Rattle.store.specs.declared.Store.{Store}
 use Rattle.store.proofs.Standing.{sound_twice}
 use Rattle.store.proofs.Histories.{mourned, explains_deaths, explains_later}

@@ -1,18 +1,18 @@
 -- A sector of the store within its stripe: what reading it gives, and what writing it changes.
 -- Assumes nothing.
-use Rattle.std.proofs.Common.{◌≡◌, ℕ, zero, suc, ◌+◌, ◌-◌, ◌*◌, ◌<◌, ◌≤◌, Bool, true, false, cond, not, ◌&&◌, T, eqb, ◌≢◌, ◌⊎◌, List, [], ◌∷◌, length, get_or, set, replicate, sym, refl, ap, ◌∙◌, subst, inl, inr, ⊎_elim, arith, get_or-set_other, get_or-set_same}
-use Rattle.std.proofs.lemmas.Bool.{cases_Bool, cases_eq, eq-eqb, ne_eqb, eqb-true, eqb-false, cond-true, cond-false, cond_both}
-use Rattle.field.specs.Stripe.{column, held, Codeword, Lies, Put}
+use Rattle.std.proofs.Common.{◌≡◌, ℕ, zero, suc, ◌+◌, ◌-◌, ◌*◌, ◌<◌, ◌≤◌, Bool, true, false, cond, T, eqb, ◌≢◌, ◌⊎◌, List, length, get_or, set, replicate, sym, refl, ap, ◌∙◌, subst, inl, inr, arith, get_or-set_other, get_or-set_same}
+use Rattle.std.proofs.lemmas.Bool.{cases_Bool, cases_eq, eq-eqb, ne_eqb, cond-true, cond-false, cond_both}
+use Rattle.field.specs.Stripe.{held, Codeword, Lies, Put}
 use Rattle.field.specs.declared.missing.Missing.{Missing}
 use Rattle.field.proofs.Putting.{held_is}
-use Rattle.layout.specs.Places.{place, index, column_of, stripe_of}
+use Rattle.layout.specs.Places.{place, column_of, stripe_of}
 use Rattle.layout.specs.Super.{Super}
 use Rattle.layout.specs.declared.members.Marks.{Marks}
 use Rattle.layout.proofs.Homing.{home_within, home_apart}
 use Rattle.store.specs.Event.{Event}
 use Rattle.store.specs.Shelf.{Shelf, count}
 use Rattle.store.specs.Durable.{Nowhere, Went, Deaths}
-use Rattle.store.specs.Keeping.{Columns, Holds, Kept, Sound, Ready, Left}
+use Rattle.store.specs.Keeping.{Columns, Sound, Ready, Left}
 use Rattle.store.specs.Stripes.{Shown, Loaded, Read, chosen}
 use Rattle.store.specs.Writes.{MarksTrue, journalling, InPlace, Changes, Journalled, Unjournalled, Placing, Unplaced}
 use Rattle.store.specs.Sectors.{sector_of, Coded, Rewrites, Fetched, Saved, Unsaved}

@@ -1,14 +1,14 @@
 -- Laws of what the disks keep under a superblock: where a stripe is, who holds it, and what keeps all that.
 -- Assumes nothing.
-use Rattle.std.proofs.Common.{◌≡◌, ℕ, ◌+◌, ◌%◌, ◌<◌, ◌≤◌, Bool, true, false, cond, T, eqb, ◌≢◌, ◌⊎◌, List, length, get_or, Some, None, Option, sym, refl, ap, ◌∙◌, subst, inl, inr, ⊎_elim, arith}
-use Rattle.std.proofs.lemmas.Bool.{cases_eq, cases_lt, cases_Bool, eqb-true, eqb-false, eq-eqb, ne_eqb}
+use Rattle.std.proofs.Common.{◌≡◌, ℕ, ◌+◌, ◌<◌, ◌≤◌, true, false, T, ◌≢◌, ◌⊎◌, List, length, get_or, Some, None, Option, sym, refl, ap, ◌∙◌, subst, inl, inr, ⊎_elim, arith}
+use Rattle.std.proofs.lemmas.Bool.{cases_eq, cases_lt, eq-eqb, ne_eqb}
 use Rattle.layout.specs.Places.{index}
 use Rattle.layout.specs.Members.{Roster, Absent}
 use Rattle.layout.specs.Super.{Super, super_of, Proper, Joins}
 use Rattle.layout.specs.declared.superblock.Rebuild.{Rebuild}
 use Rattle.store.specs.Event.{Event}
 use Rattle.store.specs.Shelf.{Shelf}
-use Rattle.store.specs.Durable.{Among, Shows, Settled, Steady, Employed, Nowhere, Deaths, Went, Returned}
+use Rattle.store.specs.Durable.{Among, Shows, Settled, Employed, Nowhere, Went, Returned}
 use Rattle.store.specs.Keeping.{Columns, slot, is_journalled, home, Fills, Holds, Inside, Kept, UpTo, Sound, Torn, Placed, Ready, Left}
 use Rattle.store.specs.Writes.{InPlace, journalling}
 use Rattle.store.proofs.Laws.{among_went, shows_went, among_back, shows_among, among_synced, among_weaker}

@@ -1,11 +1,11 @@
 -- What `serve` and `years` need of what `open`, `ask` and `turn` hand on.
 -- Assumes nothing.
-use Rattle.std.proofs.Common.{◌≡◌, ℕ, zero, suc, ◌+◌, ◌*◌, ◌<◌, ◌≤◌, Bool, true, false, T, List, [], ◌∷◌, Some, None, Ok, Err, Option, Result, sym, refl, ap, ◌∙◌, subst, suc-le-suc, zero-le, add-mul, mul-le-mul, arith}
-use Rattle.store.specs.Event.{Event, Died, Asked, Refused, Told, Turned, Cut}
-use Rattle.store.specs.Shelf.{Shelf, Dies, none, one, Back, AtStart, takes_in, told_of, allowed}
-use Rattle.store.specs.Store.{Seen, Run, Explained, fresh, new}
+use Rattle.std.proofs.Common.{◌≡◌, ℕ, zero, suc, ◌+◌, ◌*◌, ◌<◌, ◌≤◌, List, [], ◌∷◌, Some, None, Ok, Option, sym, refl, ap, subst, suc-le-suc, zero-le, add-mul, mul-le-mul, arith}
+use Rattle.store.specs.Event.{Event, Told, Turned, Cut}
+use Rattle.store.specs.Shelf.{Shelf, Back, takes_in, told_of}
+use Rattle.store.specs.Store.{Explained}
 use Rattle.store.specs.Promise.{can, said}
-use Rattle.store.specs.Between.{ticks, Serving, Recoverable, Lost, Telling, Quiet, AfterTurn, answered}
+use Rattle.store.specs.Between.{ticks, Serving, Recoverable, Lost, Telling, AfterTurn, answered}
 use Rattle.store.proofs.Histories.{ticks_deaths}
 use Rattle.store.proofs.Laws.{back_returned}
 use Rattle.store.specs.declared.Ask.{Ask}
@@ -13,7 +13,6 @@ use Rattle.store.specs.declared.Ask.TheVariants.{Read, Write, Flush, Size, Add, 
 use Rattle.store.specs.declared.Reply.{Reply}
 use Rattle.store.specs.declared.Reply.TheVariants.{Done, Bytes, Many, No}
 use Rattle.store.specs.declared.Store.{Store}
-use Rattle.store.specs.declared.Gone.{Gone}
 use Rattle.store.specs.declared.Ended.{Ended}
 
 pub takes_sectors : (a : Ask) (x : Shelf) → (takes_in a x).sectors ≡ x.sectors

@@ -1,6 +1,6 @@
 -- A stripe, written column by column, all of them or some.
 -- Assumes nothing.
-use Rattle.std.proofs.Common.{◌≡◌, ℕ, zero, suc, ◌+◌, ◌-◌, ◌*◌, ◌<◌, ◌≤◌, Bool, true, false, cond, T, ◌≢◌, ◌⊎◌, List, length, get_or, Some, None, Option, sym, refl, ap, ◌∙◌, subst, inl, inr, add-one, arith, below_more}
+use Rattle.std.proofs.Common.{◌≡◌, ℕ, zero, suc, ◌+◌, ◌<◌, ◌≤◌, Bool, true, false, cond, T, List, length, get_or, Some, None, Option, sym, refl, ap, ◌∙◌, subst, inl, inr, add-one, arith, below_more}
 use Rattle.std.proofs.lemmas.Bool.{cases_eq}
 use Rattle.layout.specs.Places.{place, index}
 use Rattle.layout.specs.Members.{Roster}
@@ -8,7 +8,7 @@ use Rattle.layout.specs.Super.{Super, Proper}
 use Rattle.layout.proofs.Turning.{place_within, index_within, index-place, place-index}
 use Rattle.store.specs.Event.{Event}
 use Rattle.store.specs.Shelf.{Shelf, count}
-use Rattle.store.specs.Durable.{Nowhere, Here, Went, Shows}
+use Rattle.store.specs.Durable.{Here, Went, Shows}
 use Rattle.store.specs.Keeping.{Fills, Holds}
 use Rattle.layout.specs.declared.superblock.Rebuild.{Rebuild}
 use Rattle.store.specs.Stripes.{disk_of, Spread, Storing, Held, Stored, extra}

@@ -1,6 +1,6 @@
 -- Tests as facts.
 -- Assumes nothing.
-use Rattle.std.proofs.Common.{◌≡◌, Bool, true, false, not, ◌&&◌, ◌||◌, T, sym, refl, subst}
+use Rattle.std.proofs.Common.{◌≡◌, Bool, true, false, ◌&&◌, T, sym, refl, subst}
 
 pub T_true : {b : Bool} → T b → b ≡ true
 T_true {b = true} t = refl

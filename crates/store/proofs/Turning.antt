@@ -1,16 +1,14 @@
 -- The end of a turn: who isn't told waits one turn less, and none waits longer than eight.
 -- Assumes nothing.
-use Rattle.std.proofs.Common.{◌≡◌, ℕ, zero, suc, ◌+◌, ◌-◌, ◌*◌, ◌%◌, ◌<◌, ◌≤◌, Bool, true, false, cond, ◌&&◌, T, eqb, ltb, ◌⊎◌, List, [], ◌∷◌, length, get_or, set, Some, None, Option, sym, refl, ap, ◌∙◌, subst, inl, inr, arith, lt→ltb, get_or-set_other, get_or-set_same}
+use Rattle.std.proofs.Common.{◌≡◌, ℕ, zero, suc, ◌+◌, ◌-◌, ◌*◌, ◌%◌, ◌<◌, ◌≤◌, Bool, true, false, cond, ◌&&◌, T, eqb, List, ◌∷◌, length, set, Some, None, Option, sym, refl, ap, ◌∙◌, subst, inl, inr, arith, lt→ltb, get_or-set_other, get_or-set_same}
 use Rattle.std.proofs.lemmas.Bool.{cases_eq, cases_lt, eq-eqb, ne_eqb, cond-true, cond-false}
 use Rattle.field.specs.Stripe.{column}
-use Rattle.layout.specs.Super.{says}
 use Rattle.store.specs.Event.{Event, Turned, Told}
-use Rattle.store.specs.Shelf.{Shelf, told_of}
-use Rattle.store.specs.Store.{Seen, Way, Free, Under, Over, Run, turns, tells, aged, older, young, every, limit, age_of, grown, set_way, size_of, starts_with, core}
+use Rattle.store.specs.Shelf.{Shelf}
+use Rattle.store.specs.Store.{Seen, Way, Free, Under, Over, Run, turns, tells, aged, older, young, every, limit, age_of, grown, set_way, size_of}
 use Rattle.store.specs.Promise.{can}
 use Rattle.store.specs.Tags.{at, Entry, Waits, First}
-use Rattle.store.specs.Keeping.{Columns}
-use Rattle.store.specs.Between.{ticks, Explains, Standing, Table, Serving, Performed, Telling}
+use Rattle.store.specs.Between.{ticks, Table, Serving, Performed, Telling}
 use Rattle.store.specs.declared.Ask.{Ask}
 use Rattle.store.specs.declared.Ask.TheVariants.{Read, Write, Flush, Size, Add, Replace}
 use Rattle.store.specs.declared.Reply.{Reply}

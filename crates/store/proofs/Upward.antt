@@ -1,11 +1,11 @@
 -- Coming up, from whatever a cut left.
 -- Assumes nothing.
-use Rattle.std.proofs.Common.{◌≡◌, ℕ, Bool, true, false, ◌⊎◌, List, sym, refl, subst, inl, inr, ⊎_elim}
+use Rattle.std.proofs.Common.{◌≡◌, ℕ, true, false, List, sym, subst, inl, inr, ⊎_elim}
 use Rattle.layout.specs.Super.{Super}
 use Rattle.store.specs.Event.{Event}
 use Rattle.store.specs.Shelf.{Shelf}
-use Rattle.store.specs.Durable.{Went, Settled, Returned}
-use Rattle.store.specs.Keeping.{Columns, Kept, Sound, Torn, Ready, Left}
+use Rattle.store.specs.Durable.{Went, Returned}
+use Rattle.store.specs.Keeping.{Columns, Kept, Sound, Ready, Left}
 use Rattle.store.specs.Recovers.{Open, Recovered, Lapsed, Across, Brought, Up, Down}
 use Rattle.store.proofs.Standing.{sound_twice, torn_back}
 use Rattle.store.proofs.Carried.{placed_brought, sound_across}

@@ -1,12 +1,12 @@
 -- What holds between turns, where the power has gone, and where it has just come back: what `open`, `ask` and `turn` hand on to one another.
 -- Assumes nothing.
-use Rattle.std.specs.Prelude.{◌≡◌, ℕ, zero, suc, ◌+◌, ◌-◌, ◌*◌, ◌%◌, ◌<◌, ◌≤◌, Bool, true, false, T, List, [], ◌∷◌, length, Some, None, Ok, Err, Option, Result, ◌≢◌}
+use Rattle.std.specs.Prelude.{◌≡◌, ℕ, zero, suc, ◌+◌, ◌*◌, ◌%◌, ◌<◌, ◌≤◌, true, false, T, List, [], ◌∷◌, length, Some, None, Ok, Err, Option, Result, ◌≢◌}
 use Rattle.field.specs.Stripe.{column}
 use Rattle.layout.specs.Members.{listed}
 use Rattle.layout.specs.Super.{Super, says}
 use Rattle.store.specs.Event.{Event, Died, Asked, Refused, Told, Turned, Cut}
 use Rattle.store.specs.Shelf.{Shelf, takes_in, told_of}
-use Rattle.store.specs.Store.{Seen, Way, Free, Over, Run, Explained, size_of, starts_with, core}
+use Rattle.store.specs.Store.{Seen, Free, Over, Run, Explained, size_of, starts_with, core}
 use Rattle.store.specs.Promise.{can}
 use Rattle.store.specs.Keeping.{Columns, Torn, Ready}
 use Rattle.store.specs.Writes.{MarksTrue}

@@ -1,6 +1,6 @@
 -- What the disks keep under a superblock, and what a cut may leave of it: the invariant of the store.
 -- Assumes nothing.
-use Rattle.std.specs.Prelude.{◌≡◌, ℕ, ◌+◌, ◌%◌, ◌<◌, ◌≤◌, Bool, true, false, cond, ◌⊎◌, List, length, Some, None, Option, ◌==◌, slice_index}
+use Rattle.std.specs.Prelude.{◌≡◌, ℕ, ◌+◌, ◌%◌, ◌<◌, ◌≤◌, Bool, false, cond, ◌⊎◌, List, length, Some, None, Option, ◌==◌, slice_index}
 use Rattle.layout.specs.Places.{index}
 use Rattle.layout.specs.Super.{Super, super_of, Proper}
 use Rattle.layout.specs.declared.superblock.Rebuild.{Rebuild}

@@ -1,6 +1,6 @@
 -- What the layout says of the members as a list, in the words of what is seen.
 -- Assumes nothing.
-use Rattle.std.specs.Prelude.{◌≡◌, ℕ, ◌<◌, true, false, List, length, set, ◌≢◌, slice_index, slice_set}
+use Rattle.std.specs.Prelude.{◌≡◌, ℕ, ◌<◌, true, false, List, length, ◌≢◌, slice_index, slice_set}
 use Rattle.layout.specs.Members.{Absent}
 use Rattle.store.specs.Store.{is_in, put}
 

@@ -1,6 +1,6 @@
 -- Coming up: which superblock is found among the disks, that it is written again, and that its journalled stripe is brought to its place.
 -- Assumes nothing.
-use Rattle.std.specs.Prelude.{◌≡◌, ℕ, ◌+◌, ◌<◌, ◌≤◌, Bool, true, false, cond, T, ◌⊎◌, List, length, Some, nat_le, slice_index}
+use Rattle.std.specs.Prelude.{◌≡◌, ℕ, ◌+◌, ◌<◌, ◌≤◌, true, false, cond, T, ◌⊎◌, List, Some, nat_le, slice_index}
 use Rattle.field.specs.Column.{noughts}
 use Rattle.field.specs.Stripe.{Codeword}
 use Rattle.layout.specs.Super.{Super, super_of, blank}

@@ -1,6 +1,6 @@
 -- A sector of the store among the columns of its stripes, and what reading and writing it come to.
 -- Assumes nothing.
-use Rattle.std.specs.Prelude.{◌≡◌, ℕ, ◌+◌, ◌-◌, Bool, true, false, ◌⊎◌, List, length, ◌≢◌}
+use Rattle.std.specs.Prelude.{◌≡◌, ℕ, ◌+◌, ◌-◌, true, false, ◌⊎◌, List, length, ◌≢◌}
 use Rattle.field.specs.Stripe.{Codeword}
 use Rattle.layout.specs.Places.{column_of, stripe_of}
 use Rattle.layout.specs.Super.{Super}

@@ -1,6 +1,6 @@
 -- A stripe on the members of a store: loaded from any sector, read in part, and written, all columns or some.
 -- Assumes nothing.
-use Rattle.std.specs.Prelude.{◌≡◌, ℕ, ◌+◌, ◌<◌, ◌≤◌, Bool, true, false, T, List, length, Some, None, Option, slice_index, slice_index_or}
+use Rattle.std.specs.Prelude.{◌≡◌, ℕ, ◌<◌, Bool, true, false, T, List, length, Some, None, Option, slice_index, slice_index_or}
 use Rattle.field.specs.Stripe.{column, Codeword, Lies}
 use Rattle.field.specs.Missing.{Known}
 use Rattle.field.specs.declared.missing.Missing.{Missing}

@@ -1,4 +1,4 @@
-use Rattle.std.proofs.Common.{sym, refl, ◌∙◌, subst, arith, rules}
+use Rattle.std.proofs.Common.{sym, ◌∙◌, subst, arith, rules}
 use Rattle.store.specs.Shelf.{Shelf, AtStart}
 use Rattle.plays.proofs.play_out.Goals as goal
 

@@ -1,5 +1,5 @@
-use Rattle.std.proofs.Common.{◌≡◌, ◌+◌, ◌<◌, ◌≤◌, ◌∷◌, length, sym, refl, ap, ◌∙◌, subst, arith, rules}
-use Rattle.store.specs.Event.{Told, Turned}
+use Rattle.std.proofs.Common.{◌≡◌, ◌∷◌, sym, refl, ap, ◌∙◌, arith, rules}
+use Rattle.store.specs.Event.{Told}
 use Rattle.store.specs.Shelf.{told_of}
 use Rattle.store.specs.Between.{ticks, Serving}
 use Rattle.store.proofs.Steps.{explained, explained_same, answered_sectors, told_sectors, serving_same, said_serving, after_some, after_none, ticks_said, ticks_told, ticks_turned}

@@ -1,5 +1,5 @@
-use Rattle.std.proofs.Common.{◌≡◌, ◌+◌, ◌*◌, ◌<◌, ◌≤◌, sym, refl, ap, ◌∙◌, subst, arith, rules}
-use Rattle.store.specs.Between.{ticks, Serving, Lost, Recoverable}
+use Rattle.std.proofs.Common.{◌+◌, ◌*◌, ◌≤◌, sym, refl, ap, ◌∙◌, subst, arith, rules}
+use Rattle.store.specs.Between.{ticks, Lost}
 use Rattle.store.proofs.Opening.{recovers, at_start, recoverable_allowed}
 use Rattle.store.proofs.Steps.{ticks_none, recoverable_same, lost_same, few_ticks, grows, ticks_back}
 use Rattle.store.proofs.years.Goals as goal

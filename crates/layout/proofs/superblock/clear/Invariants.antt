@@ -1,4 +1,4 @@
-use Rattle.std.proofs.Common.{◌≡◌, ℕ, ◌<◌, take, replicate}
+use Rattle.std.proofs.Common.{◌≡◌, take, replicate}
 use Rattle.layout.proofs.superblock.clear.Given as goal
 
 abbrev pub invariant-loop-w : goal.invariant-loop-w

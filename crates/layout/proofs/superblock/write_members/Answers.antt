@@ -1,4 +1,4 @@
-use Rattle.std.proofs.Common.{◌≡◌, ℕ, ◌+◌, ◌<◌, List, length, get_or, set, sym, ap, ◌∙◌, arith}
+use Rattle.std.proofs.Common.{ℕ, ◌+◌, List, set, sym, ap, ◌∙◌, arith}
 use Rattle.layout.specs.Members.{listed}
 use Rattle.layout.proofs.Coding.{laid, laid_none, laid_more, laid_all}
 use Rattle.layout.proofs.superblock.write_members.Goals as goal

@@ -1,7 +1,6 @@
-use Rattle.std.proofs.Common.{◌≡◌, [], sym, refl, ap, ◌∙◌, subst, arith}
+use Rattle.std.proofs.Common.{sym, subst, arith}
 use Rattle.store.specs.Shelf.{AtStart}
-use Rattle.memory.specs.Held.{shelf_of, start}
-use Rattle.memory.specs.Words.{seen_of, latest, events_of}
+use Rattle.memory.specs.Held.{shelf_of}
 use Rattle.memory.specs.declared.State.{State}
 use Rattle.memory.proofs.Starts.{starts, unseen}
 use Rattle.memory.proofs.Memory.restart.Goals as goal

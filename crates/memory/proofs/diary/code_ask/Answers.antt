@@ -1,4 +1,4 @@
-use Rattle.std.proofs.Common.{◌≡◌, ◌/◌, ◌^◌, sym, ap, ◌∙◌, arith}
+use Rattle.std.proofs.Common.{◌/◌, ◌^◌, sym, ap, ◌∙◌, arith}
 use Rattle.store.specs.declared.Ask.TheVariants.{Replace}
 use Rattle.memory.specs.Words.{ask_of}
 use Rattle.memory.proofs.diary.code_ask.Goals as goal

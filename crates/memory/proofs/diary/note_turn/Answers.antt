@@ -1,4 +1,4 @@
-use Rattle.std.proofs.Common.{◌≡◌, ◌||◌, leb, sym, refl, ap, ◌∙◌, arith, length-set}
+use Rattle.std.proofs.Common.{◌||◌, leb, refl, ap, ◌∙◌, arith, length-set}
 use Rattle.memory.specs.Held.{shelf_of}
 use Rattle.memory.proofs.Logged.{one_turn_more, turn_head}
 use Rattle.memory.proofs.Laws.{relit}

@@ -1,4 +1,4 @@
-use Rattle.std.proofs.Common.{◌≡◌, sym, refl, ap, ◌∙◌, arith}
+use Rattle.std.proofs.Common.{refl, ap, ◌∙◌, arith}
 use Rattle.memory.specs.Words.{events_of, Head}
 use Rattle.memory.proofs.Logged.{stack, asked_head, refused_head, told_head}
 use Rattle.memory.proofs.diary.push_head.Goals as goal

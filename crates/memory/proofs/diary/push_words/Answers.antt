@@ -1,4 +1,4 @@
-use Rattle.std.proofs.Common.{◌≡◌, sym, refl, ap, ◌∙◌, arith}
+use Rattle.std.proofs.Common.{arith}
 use Rattle.memory.proofs.Logged.{same_reads, wide_reads}
 use Rattle.memory.proofs.diary.push_words.Goals as goal
 

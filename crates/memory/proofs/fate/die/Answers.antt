@@ -1,6 +1,6 @@
-use Rattle.std.proofs.Common.{◌≡◌, true, false, T, sym, refl, ap, ◌∙◌, inl, inr, ⊎_elim, arith}
+use Rattle.std.proofs.Common.{refl, ap, ◌∙◌, inl, inr, ⊎_elim, arith}
 use Rattle.std.proofs.lemmas.Bool.{true≢false, both_ways}
-use Rattle.store.specs.Shelf.{MayDie, died}
+use Rattle.store.specs.Shelf.{died}
 use Rattle.memory.specs.Held.{shelf_of}
 use Rattle.memory.proofs.Laws.{died_used, died_unused, truth, untruth}
 use Rattle.memory.proofs.fate.die.Goals as goal

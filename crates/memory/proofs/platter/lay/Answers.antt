@@ -1,4 +1,4 @@
-use Rattle.std.proofs.Common.{◌≡◌, sym, refl, ap, ◌∙◌, inl, inr, ⊎_elim, arith}
+use Rattle.std.proofs.Common.{sym, refl, ◌∙◌, inl, inr, ⊎_elim, arith}
 use Rattle.memory.proofs.Listing.{laid_again, laid_first}
 use Rattle.memory.proofs.platter.lay.Goals as goal
 

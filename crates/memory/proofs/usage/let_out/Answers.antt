@@ -1,6 +1,5 @@
-use Rattle.std.proofs.Common.{◌≡◌, sym, refl, ap, ◌∙◌, arith}
+use Rattle.std.proofs.Common.{refl}
 use Rattle.store.specs.Shelf.{told_of}
-use Rattle.memory.specs.Held.{shelf_of}
 use Rattle.memory.proofs.Uses.{told_as}
 use Rattle.memory.proofs.usage.let_out.Goals as goal
 

@@ -1,4 +1,4 @@
-use Rattle.std.proofs.Common.{◌≡◌, sym, refl, ap, ◌∙◌, arith}
+use Rattle.std.proofs.Common.{refl, arith}
 use Rattle.store.specs.Shelf.{takes_in}
 use Rattle.memory.specs.Held.{shelf_of}
 use Rattle.memory.proofs.Uses.{takes_as, in_use_lem}

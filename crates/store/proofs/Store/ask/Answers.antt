@@ -1,7 +1,7 @@
-use Rattle.std.proofs.Common.{◌≡◌, ℕ, ◌+◌, ◌-◌, ◌*◌, ◌<◌, ◌≤◌, List, ◌∷◌, length, sym, refl, ap, ◌∙◌, subst, arith}
+use Rattle.std.proofs.Common.{◌≡◌, ℕ, ◌+◌, ◌-◌, ◌*◌, ◌≤◌, ◌∷◌, length, sym, refl, ap, ◌∙◌, subst, arith}
 use borrow.Rule.Slice.PartMut.{put_mid}
 use Rattle.field.proofs.Slices.{written}
-use Rattle.store.specs.Store.{size_of, wrong}
+use Rattle.store.specs.Store.{wrong}
 use Rattle.store.specs.Promise.{can, said}
 use Rattle.store.specs.Tags.{Reaches, refusal_of}
 use Rattle.store.specs.Between.{Serving, answered}

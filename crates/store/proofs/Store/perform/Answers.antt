@@ -1,16 +1,15 @@
-use Rattle.std.proofs.Common.{◌≡◌, ℕ, ◌+◌, ◌-◌, ◌*◌, ◌<◌, ◌≤◌, List, length, take, drop, Some, sym, refl, ap, ◌∙◌, subst, arith, rules}
+use Rattle.std.proofs.Common.{◌≡◌, ℕ, ◌+◌, ◌-◌, ◌*◌, List, length, take, drop, Some, sym, refl, ap, ◌∙◌, subst, arith}
 use Rattle.std.proofs.lemmas.Result.{MatchResult-from_err}
 use Rattle.field.specs.Stripe.{column}
 use Rattle.layout.specs.Members.{listed}
 use Rattle.layout.specs.Super.{says}
-use Rattle.store.specs.Shelf.{Shelf}
 use Rattle.store.specs.Store.{core}
 use Rattle.layout.specs.Places.{stripe_of}
 use Rattle.store.specs.Stripes.{extra}
 use Rattle.store.specs.Writes.{journalling}
 use Rattle.store.specs.Sectors.{sector_of, Saved, Unsaved}
-use Rattle.store.specs.Tags.{at, Reaches}
-use Rattle.store.specs.Between.{Performed, Serving}
+use Rattle.store.specs.Tags.{Reaches}
+use Rattle.store.specs.Between.{Performed}
 use Rattle.store.specs.declared.Ask.{Ask}
 use Rattle.store.specs.declared.Ask.TheVariants.{Read, Write, Flush, Size, Add, Replace}
 use Rattle.store.specs.declared.Reply.TheVariants.{Bytes, Done, Many}

@@ -1,8 +1,7 @@
-use Rattle.std.proofs.Common.{◌≡◌, ℕ, ◌+◌, ◌-◌, ◌*◌, ◌%◌, ◌<◌, ◌≤◌, length, set, None, sym, refl, ap, ◌∙◌, subst, arith}
+use Rattle.std.proofs.Common.{◌≡◌, ◌<◌, length, set, None, refl, ap, ◌∙◌, arith}
 use Rattle.store.specs.declared.tags.Tags.{Tags}
 use Rattle.std.proofs.lemmas.Result.{err_from_is_err_and}
 use Rattle.std.proofs.lemmas.Bool.{true≢false}
-use Rattle.store.specs.Tags.{First}
 use Rattle.store.proofs.Histories.{ticks_deaths}
 use Rattle.store.proofs.Turning.{rests, tells_one}
 use Rattle.store.proofs.Store.turn.Goals as goal

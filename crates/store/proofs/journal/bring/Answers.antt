@@ -1,9 +1,6 @@
-use Rattle.std.proofs.Common.{◌≡◌, ℕ, ◌+◌, ◌<◌, Some, None, Option, sym, refl, ap, ◌∙◌, subst, inl, inr, arith}
+use Rattle.std.proofs.Common.{refl, inl, inr, arith}
 use Rattle.std.proofs.lemmas.Result.{MatchResult-from_err}
-use Rattle.layout.specs.declared.superblock.Rebuild.{Rebuild}
-use Rattle.layout.specs.Super.{Super, says}
-use Rattle.store.specs.Keeping.{slot, Fills, Holds, Inside}
-use Rattle.store.specs.Recovers.{Across}
+use Rattle.layout.specs.Super.{says}
 use Rattle.store.proofs.Laws.{went_none, went_then, went_longer, went_wider}
 use Rattle.store.proofs.Standing.{slot_low}
 use Rattle.store.proofs.Carried.{level_across, brought_none, brought_members, brought_fill, slot_apart, inside_some, fills_of, fills_by, fills_none}

@@ -1,6 +1,6 @@
-use Rattle.std.proofs.Common.{◌≡◌, ℕ, ◌<◌, get_or, sym, subst, arith}
+use Rattle.std.proofs.Common.{get_or, sym, subst, arith}
 use Rattle.std.proofs.lemmas.Result.{MatchResult-from_err}
-use Rattle.layout.specs.Super.{Super, says, super_of, Proper}
+use Rattle.layout.specs.Super.{Super, says, Proper}
 use Rattle.store.specs.Durable.{Employed}
 use Rattle.store.proofs.Laws.{deaths_then}
 use Rattle.store.proofs.Choosing.{recovered, lapsed_later, lapsed_first, found_proper, found_employed}

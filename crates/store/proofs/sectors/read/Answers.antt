@@ -1,9 +1,7 @@
-use Rattle.std.proofs.Common.{◌≡◌, ℕ, ◌+◌, ◌-◌, ◌*◌, ◌<◌, ◌≤◌, List, length, sym, refl, ap, ◌∙◌, subst, arith}
+use Rattle.std.proofs.Common.{◌<◌, sym, refl, arith}
 use Rattle.std.proofs.lemmas.Result.{MatchResult-from_err}
-use Rattle.layout.specs.Members.{listed}
 use Rattle.layout.specs.Super.{says}
 use Rattle.layout.proofs.Coding.{parts_same}
-use Rattle.store.specs.Writes.{MarksTrue}
 use Rattle.store.proofs.Loads.{marks_went, marks_kept, marks_learned}
 use Rattle.store.proofs.Journalling.{serving_kept}
 use Rattle.store.proofs.Rewriting.{at_stripe, at_column, is_sector, fetched}

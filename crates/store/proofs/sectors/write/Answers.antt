@@ -10,7 +10,7 @@ use Rattle.layout.specs.Super.{Super}
 use Rattle.layout.proofs.Coding.{parts_same}
 use Rattle.store.specs.Keeping.{Ready}
 use Rattle.field.specs.Stripe.{held, Put}
-use Rattle.store.specs.Stripes.{Serving, Loaded, extra, disk_of, Each, chosen, learned}
+use Rattle.store.specs.Stripes.{Loaded, extra, disk_of, Each, chosen, learned}
 use Rattle.store.specs.Shelf.{count}
 use Rattle.store.specs.declared.selection.Selection.{Selection}
 use Rattle.store.specs.Writes.{MarksTrue, journalling, Journalled, Unjournalled, Unplaced, Placing}

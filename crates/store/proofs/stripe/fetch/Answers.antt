@@ -1,7 +1,7 @@
-use Rattle.std.proofs.Common.{◌≡◌, ℕ, Bool, List, get_or, sym, subst, arith}
+use Rattle.std.proofs.Common.{ℕ, get_or, sym, subst, arith}
 use Rattle.std.proofs.lemmas.Result.{MatchResult-weaker}
 use Rattle.layout.specs.Members.{listed}
-use Rattle.store.specs.Durable.{Employed, Heard}
+use Rattle.store.specs.Durable.{Heard}
 use Rattle.store.proofs.Truths.{true-T}
 use Rattle.store.proofs.Laws.{went_none, went_longer}
 use Rattle.store.proofs.Loads.{answered_heard, answered_marked}

@@ -1,6 +1,5 @@
-use Rattle.std.proofs.Common.{◌≡◌, ℕ, T, get_or, sym, subst, arith}
+use Rattle.std.proofs.Common.{ℕ, T, sym, subst, arith}
 use Rattle.std.proofs.lemmas.Result.{MatchResult-from_err}
-use Rattle.layout.specs.Members.{listed}
 use Rattle.store.specs.Durable.{Employed, Here, Went, Shows}
 use Rattle.store.proofs.Truths.{true-T}
 use Rattle.store.proofs.Laws.{went_none, went_longer}

@@ -1,9 +1,9 @@
-use Rattle.std.proofs.Common.{◌≡◌, ℕ, ◌+◌, ◌-◌, ◌*◌, ◌<◌, ◌≤◌, List, length, get_or, take, drop, sym, ap, ◌∙◌, subst, arith}
+use Rattle.std.proofs.Common.{◌≡◌, ℕ, ◌+◌, ◌-◌, ◌*◌, length, get_or, take, drop, ap, ◌∙◌, subst, arith}
 use Rattle.std.proofs.lemmas.Result.{MatchResult-from_err}
 use Rattle.field.specs.Stripe.{column}
 use Rattle.layout.specs.Members.{listed}
 use Rattle.layout.proofs.Turning.{place_within}
-use Rattle.store.specs.Stripes.{disk_of, Answered}
+use Rattle.store.specs.Stripes.{Answered}
 use Rattle.store.proofs.Laws.{went_then, went_longer}
 use Rattle.store.proofs.Loads.{serving_went, read_one, read_all}
 use Rattle.store.proofs.stripe.read_column.Goals as goal

@@ -1,16 +1,14 @@
-use Rattle.std.proofs.Common.{◌≡◌, ℕ, ◌+◌, ◌<◌, ◌≤◌, T, length, sym, refl, ap, ◌∙◌, subst, inl, inr, arith}
+use Rattle.std.proofs.Common.{◌≡◌, ℕ, T, length, sym, ap, ◌∙◌, subst, inr, arith}
 use Rattle.std.proofs.lemmas.Result.{MatchResult-from_err}
 use Rattle.field.specs.Stripe.{held}
-use Rattle.layout.specs.Members.{listed}
 use Rattle.layout.specs.Super.{says}
 use Rattle.layout.proofs.Turning.{index_within}
 use Rattle.layout.specs.Places.{index}
 use Rattle.store.specs.Keeping.{Fills}
-use Rattle.store.specs.Stripes.{chosen, Held}
+use Rattle.store.specs.Stripes.{chosen}
 use Rattle.store.proofs.Standing.{holds_once}
-use Rattle.store.proofs.Laws.{went_then, went_wider, went_longer}
+use Rattle.store.proofs.Laws.{went_then, went_longer}
 use Rattle.store.proofs.Truths.{true-T}
-use Rattle.store.proofs.Loads.{serving_went}
 use Rattle.store.proofs.Stores.{spread_held, stored_members, stored_fill, fills_extra, fill_held}
 use Rattle.store.proofs.stripe.store.Goals as goal
 

@@ -1,12 +1,11 @@
-use Rattle.std.proofs.Common.{◌≡◌, ℕ, ◌+◌, ◌-◌, ◌*◌, ◌<◌, ◌≤◌, Bool, true, false, List, length, get_or, take, drop, sym, ap, ◌∙◌, subst, arith, length-drop, length-take}
+use Rattle.std.proofs.Common.{◌≡◌, ℕ, ◌+◌, ◌-◌, ◌*◌, ◌<◌, List, length, get_or, take, drop, sym, ap, ◌∙◌, subst, arith, length-drop, length-take}
 use Rattle.std.proofs.lemmas.Result.{MatchResult-from_err}
-use Rattle.field.specs.Stripe.{column, held}
+use Rattle.field.specs.Stripe.{held}
 use Rattle.field.proofs.Putting.{held_in}
 use Rattle.layout.specs.Members.{listed}
 use Rattle.layout.proofs.Turning.{place_within}
-use Rattle.store.specs.Shelf.{count}
 use Rattle.store.specs.Durable.{Here, Went, Shows}
-use Rattle.store.specs.Stripes.{disk_of, chosen}
+use Rattle.store.specs.Stripes.{chosen}
 use Rattle.store.proofs.Laws.{went_longer}
 use Rattle.store.proofs.Loads.{serving_went}
 use Rattle.store.proofs.Stores.{count_more, count_below, storing_none, storing_skip, storing_more, storing_went, storing_is}

@@ -1,6 +1,6 @@
-use Rattle.std.proofs.Common.{◌≡◌, ℕ, ◌+◌, ◌-◌, ◌*◌, ◌<◌, ◌≤◌, List, length, take, drop, replicate, sym, refl, ap, ◌∙◌, subst, arith, length-drop, length-take}
+use Rattle.std.proofs.Common.{◌≡◌, ℕ, ◌+◌, ◌-◌, ◌*◌, ◌<◌, List, take, drop, sym, ap, ◌∙◌, subst, arith, length-drop, length-take}
 use Rattle.std.proofs.lemmas.Result.{MatchResult-from_err}
-use Rattle.field.specs.Stripe.{column, held}
+use Rattle.field.specs.Stripe.{held}
 use Rattle.field.proofs.Putting.{held_in, held_beyond}
 use Rattle.store.specs.Durable.{Here, Went, Shows}
 use Rattle.store.proofs.stripe.write_column.Goals as goal

@@ -1,13 +1,12 @@
-use Rattle.std.proofs.Common.{◌≡◌, ℕ, ◌+◌, ◌<◌, ◌≤◌, ◌⊎◌, length, get_or, sym, refl, ap, ◌∙◌, subst, inl, inr, arith}
+use Rattle.std.proofs.Common.{ℕ, ◌+◌, length, refl, arith}
 use Rattle.std.proofs.lemmas.Result.{MatchResult-from_err, MatchResult-weaker}
 use Rattle.field.specs.Stripe.{held}
-use Rattle.layout.specs.Super.{Super, says, Proper}
+use Rattle.layout.specs.Super.{says}
 use Rattle.layout.specs.Places.{index}
 use Rattle.layout.proofs.Turning.{index_within}
-use Rattle.store.specs.Keeping.{slot, Holds}
+use Rattle.store.specs.Keeping.{Holds}
 use Rattle.store.proofs.Truths.{true-T}
 use Rattle.store.specs.Stripes.{chosen}
-use Rattle.store.specs.Writes.{journalling}
 use Rattle.store.proofs.Laws.{deaths_then}
 use Rattle.store.proofs.Standing.{slot_low, member_holds, three_members}
 use Rattle.store.proofs.Stores.{count_all}

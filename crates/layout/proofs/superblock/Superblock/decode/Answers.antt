@@ -1,6 +1,5 @@
-use Rattle.std.proofs.Common.{◌≡◌, ℕ, ◌+◌, ◌-◌, ◌<◌, ◌≤◌, List, length, get_or, take, drop, sym, ap, ◌∙◌, subst, arith, rules}
+use Rattle.std.proofs.Common.{◌≡◌, ℕ, ◌+◌, ◌-◌, get_or, take, drop, sym, ap, ◌∙◌, subst, arith, rules}
 use Rattle.layout.specs.Members.{Roster, listed}
-use Rattle.layout.specs.Super.{Super, says}
 use Rattle.layout.proofs.Coding.{marked_says, unmarked_says, proper_marked, few_said, small_said, parts_same}
 use Rattle.layout.proofs.superblock.Superblock.decode.Goals as goal
 

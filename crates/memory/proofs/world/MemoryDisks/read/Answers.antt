@@ -1,4 +1,4 @@
-use Rattle.std.proofs.Common.{◌≡◌, sym, ◌∙◌, subst}
+use Rattle.std.proofs.Common.{sym, ◌∙◌, subst}
 use Rattle.store.specs.Shelf.{Reading}
 use Rattle.store.specs.declared.Answer.{Answer}
 use Rattle.memory.specs.Held.{shelf_of}
