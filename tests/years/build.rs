@@ -1,4 +1,4 @@
-// Links the library that `rt staticlib export` makes.
+// Links the library that `tools/staticlib export` makes.
 fn main() {
     let root = std::env::var("CARGO_MANIFEST_DIR").unwrap();
     println!("cargo:rustc-link-search=native={root}/../../target/staticlib");
