@@ -1,8 +1,8 @@
 -- Steps of the loops over words.
 -- Assumes nothing.
-use Rattle.std.proofs.Common.{◌≡◌, ℕ, zero, suc, ◌+◌, ◌-◌, ◌/◌, ◌%◌, ◌^◌, ◌<◌, [], ◌∷◌, ◌++◌, map, length, get_or, take, drop, set, sym, refl, ap, ◌∙◌, ap₂, le_of_suc-le-suc, not-suc-le-zero, add-one, arith}
+use Rattle.std.proofs.Common.{◌≡◌, ℕ, zero, suc, ◌+◌, ◌/◌, ◌%◌, ◌^◌, ◌<◌, [], ◌∷◌, ◌++◌, map, length, get_or, take, drop, set, sym, refl, ap, ◌∙◌, ap₂, le_of_suc-le-suc, not-suc-le-zero, add-one, arith}
 use lib.Bits.{bit_xor}
-use Rattle.std.proofs.lemmas.List.{take_all, drop_all, append-nil, get_or_default}
+use Rattle.std.proofs.lemmas.List.{take_all, drop_all, append-nil, get_or_default, map-id}
 use Rattle.std.proofs.lemmas.List.Edits.{map_over_more}
 use Rattle.std.proofs.lemmas.Nat.{shr-shr}
 use Rattle.field.specs.Field.{pick, product_by}
@@ -64,18 +64,25 @@ module _ (f : ℕ → ℕ) where
   upto_all (x ∷ a) [] (suc n) e h = absurd (omega arith)
   upto_all (x ∷ a) (y ∷ b) (suc n) e h = ap (λ (s : Sector). bit_xor (f x) y ∷ s) (upto_all a b n (omega arith) (omega arith))
 
+map_same : (f g : ℕ → ℕ) → ((v : ℕ) → f v ≡ g v) → (s : Sector) → map f s ≡ map g s
+map_same f g h [] = refl
+map_same f g h (x ∷ s) = ap₂ (λ (y : ℕ) (t : Sector). y ∷ t) (h x) (map_same f g h s)
+
+-- words that are raised by what computes the same are the same
+pub raised_by : (f g : ℕ → ℕ) → ((v : ℕ) → f v ≡ g v) → (s t r : Sector) → r ≡ add (map f s) t → r ≡ add (map g s) t
+raised_by f g h s t r e = e ∙ ap (λ (u : Sector). add u t) (map_same f g h s)
+
+pub not_raised : (s t r : Sector) → r ≡ add (map (λ (v : ℕ). v) s) t → r ≡ add s t
+not_raised s t r e = e ∙ ap (λ (u : Sector). add u t) (map-id s)
+
 -- ---- the product, from the highest bit on
 
 module _ (f : ℕ → ℕ) where
-  pub product_none : (c v : ℕ) → 0 ≡ product_by f 0 (c / 2 ^ (8 - 0)) v
+  pub product_none : (c v : ℕ) → 0 ≡ product_by f 0 c v
   unfolding product_by
   product_none c v = refl
 
-  pub product_more : (j c v : ℕ) → j < 8
-      → bit_xor (pick (c / 2 ^ (7 - j) % 2) v) (f (product_by f j (c / 2 ^ (8 - j)) v)) ≡ product_by f (j + 1) (c / 2 ^ (8 - (j + 1))) v
+  pub product_more : (n i c v : ℕ) → bit_xor (pick (c / 2 ^ i % 2) v) (f (product_by f n (c / 2 ^ (i + 1)) v)) ≡ product_by f (n + 1) (c / 2 ^ i) v
   unfolding product_by
-  product_more j c v h =
-      let e : 7 - j + 1 ≡ 8 - j = omega arith in
-      let e' : 7 - j ≡ 8 - (j + 1) = omega arith in
-      ap (λ (x : ℕ). bit_xor (pick (c / 2 ^ (7 - j) % 2) v) (f (product_by f j x v))) (sym (shr-shr c (7 - j) 1 ∙ ap (λ (n : ℕ). c / 2 ^ n) e))
-      ∙ ap₂ (λ (m n : ℕ). product_by f m (c / 2 ^ n) v) (sym (add-one j)) e'
+  product_more n i c v =
+      ap (λ (x : ℕ). bit_xor (pick (c / 2 ^ i % 2) v) (f (product_by f n x v))) (sym (shr-shr c i 1)) ∙ ap (λ (m : ℕ). product_by f m (c / 2 ^ i) v) (sym (add-one n))

@@ -1,11 +1,11 @@
 -- What is had again is the codeword's.
 -- Assumes nothing.
-use Rattle.std.proofs.Common.{◌≡◌, ℕ, ◌+◌, ◌-◌, ◌<◌, ◌≤◌, ◌≢◌, List, map, get_or, sym, refl, ap, ◌∙◌, subst, inl, inr, arith}
+use Rattle.std.proofs.Common.{◌≡◌, ℕ, ◌+◌, ◌-◌, ◌<◌, ◌≤◌, ◌≢◌, map, get_or, sym, refl, ap, ◌∙◌, subst, inl, inr, arith}
 use Rattle.std.proofs.lemmas.Bool.{cases_eq}
 use Rattle.field.specs.Field.{sum, product, power}
 use Rattle.field.specs.Word.{product8}
 use Rattle.field.specs.Column.{Sector, noughts, Good, byte_at, total, IsSum, plain, raised, Rests, Solves}
-use Rattle.field.specs.Stripe.{column, data_of, Codeword, Written, Anew, Left, Restores, MendsTwo}
+use Rattle.field.specs.Stripe.{data_of, Codeword, Written, Anew, Left, Restores, MendsTwo}
 use Rattle.field.proofs.Powers.{power_undone}
 use Rattle.field.proofs.Eight.{byte_lt}
 use Rattle.field.proofs.Totals.{byte_noughts, byte_scaled, good_scaled, same_sector}
@@ -13,74 +13,74 @@ use Rattle.field.proofs.Parities.{raised_zero, nothing_behind_lem, only_one, lef
 
 -- ---- P and Q anew
 
-pub anew_mends : (k : ℕ) (s t : List ℕ) → 2 ≤ k → Anew k s t → MendsTwo k 0 1 s t
+pub anew_mends : (k : ℕ) (s t : ℕ → Sector) → 2 ≤ k → Anew k s t → MendsTwo k 0 1 s t
 anew_mends k s t few a c cw but i h =
-    let same : (j : ℕ) → j < k - 2 → column (2 + j) s ≡ c (2 + j) = λ j l. but (2 + j) (omega arith) (λ e. omega arith) (λ e. omega arith) in
+    let same : (j : ℕ) → j < k - 2 → s (2 + j) ≡ c (2 + j) = λ j l. but (2 + j) (omega arith) (λ e. omega arith) (λ e. omega arith) in
     elim (cases_eq i 0) [
       | inl e ↦
-          ap (λ (n : ℕ). column n t) e
-          ∙ (only_one (k - 2) (data_of c)).0 (column 0 t) (c 0) ((nothing_behind_lem (k - 2) (data_of (λ n. column n s)) (data_of c) same).0 (column 0 t) a.is_p) cw.parity_p
+          ap t e
+          ∙ (only_one (k - 2) (data_of c)).0 (t 0) (c 0) ((nothing_behind_lem (k - 2) (data_of s) (data_of c) same).0 (t 0) a.is_p) cw.parity_p
           ∙ ap c (sym e)
       | inr n0 ↦ elim (cases_eq i 1) [
         | inl e ↦
-            ap (λ (n : ℕ). column n t) e
-            ∙ (only_one (k - 2) (data_of c)).1 (column 1 t) (c 1) ((nothing_behind_lem (k - 2) (data_of (λ n. column n s)) (data_of c) same).1 (column 1 t) a.is_q) cw.parity_q
+            ap t e
+            ∙ (only_one (k - 2) (data_of c)).1 (t 1) (c 1) ((nothing_behind_lem (k - 2) (data_of s) (data_of c) same).1 (t 1) a.is_q) cw.parity_q
             ∙ ap c (sym e)
         | inr n1 ↦ a.others i (omega arith) ∙ but i h n0 n1
       ]
     ]
 
 -- a data column is had again, and then P and Q are made anew
-pub restored_anew : (k m b : ℕ) (s u t : List ℕ) → 2 ≤ k → m < 2 → 2 ≤ b → Restores k b m s u → Anew k u t → MendsTwo k m b s t
+pub restored_anew : (k m b : ℕ) (s u t : ℕ → Sector) → 2 ≤ k → m < 2 → 2 ≤ b → Restores k b m s u → Anew k u t → MendsTwo k m b s t
 restored_anew k m b s u t few lm lb r a c cw but =
     anew_mends k u t few a c cw
     (λ i h n0 n1. elim (cases_eq i b) [
-      | inl e ↦ ap (λ (n : ℕ). column n u) e ∙ r.here c cw (λ j l nb nm. but j l nm nb) ∙ ap c (sym e)
+      | inl e ↦ ap u e ∙ r.here c cw (λ j l nb nm. but j l nm nb) ∙ ap c (sym e)
       | inr ne ↦ r.others i ne ∙ but i h (λ e. omega arith) ne
     ])
 
 -- ---- what is left of P or Q, at an element: c has it in column m, and s has noughts in place of some of its data
 
-module _ (f : ℕ → ℕ → ℕ) (zero_is : (j : ℕ) → f j 0 ≡ 0) (n m : ℕ) (c : ℕ → Sector) (s : List ℕ) (is : IsSum f n (data_of c) (c m)) (has : column m s ≡ c m)
+module _ (f : ℕ → ℕ → ℕ) (zero_is : (j : ℕ) → f j 0 ≡ 0) (n m : ℕ) (c : ℕ → Sector) (s : ℕ → Sector) (is : IsSum f n (data_of c) (c m)) (has : s m ≡ c m)
     (w b : ℕ) (lw : w < 64) (lb : b < 8) where
   abbrev rest : ℕ
-  rest = sum (total n (λ j. f j (byte_at w b (column (2 + j) s)))) (byte_at w b (column m s))
+  rest = sum (total n (λ j. f j (byte_at w b (s (2 + j))))) (byte_at w b (s m))
 
-  whole : rest ≡ sum (total n (λ j. f j (byte_at w b (column (2 + j) s)))) (total n (λ j. f j (byte_at w b (c (2 + j)))))
-  whole = ap (sum (total n (λ j. f j (byte_at w b (column (2 + j) s))))) (ap (byte_at w b) has ∙ is.bytes w b lw lb)
+  whole : rest ≡ sum (total n (λ j. f j (byte_at w b (s (2 + j))))) (total n (λ j. f j (byte_at w b (c (2 + j)))))
+  whole = ap (sum (total n (λ j. f j (byte_at w b (s (2 + j)))))) (ap (byte_at w b) has ∙ is.bytes w b lw lb)
 
-  none : (x : ℕ) → column (2 + x) s ≡ noughts → f x (byte_at w b (column (2 + x) s)) ≡ 0
+  none : (x : ℕ) → s (2 + x) ≡ noughts → f x (byte_at w b (s (2 + x))) ≡ 0
   none x z = ap (f x) (ap (byte_at w b) z ∙ byte_noughts w b) ∙ zero_is x
 
-  rest_one : (x : ℕ) → x < n → column (2 + x) s ≡ noughts → ((j : ℕ) → j < n → j ≢ x → column (2 + j) s ≡ c (2 + j)) → rest ≡ f x (byte_at w b (c (2 + x)))
+  rest_one : (x : ℕ) → x < n → s (2 + x) ≡ noughts → ((j : ℕ) → j < n → j ≢ x → s (2 + j) ≡ c (2 + j)) → rest ≡ f x (byte_at w b (c (2 + x)))
   rest_one x l z same =
       whole
-      ∙ left_one n (λ j. f j (byte_at w b (c (2 + j)))) (λ j. f j (byte_at w b (column (2 + j) s))) x l (λ j h d. ap (λ (t : Sector). f j (byte_at w b t)) (same j h d)) (none x z)
+      ∙ left_one n (λ j. f j (byte_at w b (c (2 + j)))) (λ j. f j (byte_at w b (s (2 + j)))) x l (λ j h d. ap (λ (t : Sector). f j (byte_at w b t)) (same j h d)) (none x z)
 
-  rest_two : (x y : ℕ) → x < y → y < n → column (2 + x) s ≡ noughts → column (2 + y) s ≡ noughts → ((j : ℕ) → j < n → j ≢ x → j ≢ y → column (2 + j) s ≡ c (2 + j))
+  rest_two : (x y : ℕ) → x < y → y < n → s (2 + x) ≡ noughts → s (2 + y) ≡ noughts → ((j : ℕ) → j < n → j ≢ x → j ≢ y → s (2 + j) ≡ c (2 + j))
       → rest ≡ sum (f x (byte_at w b (c (2 + x)))) (f y (byte_at w b (c (2 + y))))
   rest_two x y xy l zx zy same =
       whole
-      ∙ left_two n (λ j. f j (byte_at w b (c (2 + j)))) (λ j. f j (byte_at w b (column (2 + j) s))) x y xy l
+      ∙ left_two n (λ j. f j (byte_at w b (c (2 + j)))) (λ j. f j (byte_at w b (s (2 + j)))) x y xy l
       (λ j h d d'. ap (λ (t : Sector). f j (byte_at w b t)) (same j h d d')) (none x zx) (none y zy)
 
 -- ---- and so the missing data columns
 
-module _ (k : ℕ) (few : 4 ≤ k) (most : k ≤ 12) (c : ℕ → Sector) (cw : Codeword k c) (s : List ℕ) (p q : Sector) (left : Left k s p q) where
+module _ (k : ℕ) (few : 4 ≤ k) (most : k ≤ 12) (c : ℕ → Sector) (cw : Codeword k c) (s : ℕ → Sector) (p q : Sector) (left : Left k s p q) where
   -- data column x holds noughts, and all others and P are c's
-  left_p : (x : ℕ) → x < k - 2 → column (2 + x) s ≡ noughts → ((e : ℕ) → e < k → e ≢ 2 + x → e ≢ 1 → column e s ≡ c e) → p ≡ c (2 + x)
+  left_p : (x : ℕ) → x < k - 2 → s (2 + x) ≡ noughts → ((e : ℕ) → e < k → e ≢ 2 + x → e ≢ 1 → s e ≡ c e) → p ≡ c (2 + x)
   left_p x h z same =
-      let has : column 0 s ≡ c 0 = same 0 (omega arith) (λ e. omega arith) (λ e. omega arith) in
+      let has : s 0 ≡ c 0 = same 0 (omega arith) (λ e. omega arith) (λ e. omega arith) in
       same_sector p (c (2 + x)) left.good_p (cw.good (2 + x))
       (λ w b lw lb.
       left.in_p w b lw lb
       ∙ rest_one plain (λ j. refl) (k - 2) 0 c s cw.parity_p has w b lw lb x h z (λ j l d. same (2 + j) (omega arith) (λ e. d (omega arith)) (λ e. omega arith)))
 
   -- the same with Q in P's place
-  left_q : (x : ℕ) → x < k - 2 → column (2 + x) s ≡ noughts → ((e : ℕ) → e < k → e ≢ 2 + x → e ≢ 0 → column e s ≡ c e)
+  left_q : (x : ℕ) → x < k - 2 → s (2 + x) ≡ noughts → ((e : ℕ) → e < k → e ≢ 2 + x → e ≢ 0 → s e ≡ c e)
       → (r : Sector) → r ≡ map (product8 (power (255 - x))) q → r ≡ c (2 + x)
   left_q x h z same r er =
-      let has : column 1 s ≡ c 1 = same 1 (omega arith) (λ e. omega arith) (λ e. omega arith) in
+      let has : s 1 ≡ c 1 = same 1 (omega arith) (λ e. omega arith) (λ e. omega arith) in
       same_sector r (c (2 + x)) (subst Good (sym er) (good_scaled (power (255 - x)) q left.good_q)) (cw.good (2 + x))
       (λ w b lw lb.
       ap (byte_at w b) er ∙ byte_scaled (power (255 - x)) w b q left.good_q lb
@@ -90,10 +90,10 @@ module _ (k : ℕ) (few : 4 ≤ k) (most : k ≤ 12) (c : ℕ → Sector) (cw : 
       ∙ power_undone x (byte_at w b (c (2 + x))) (omega arith) (byte_lt b (get_or (c (2 + x)) w 0)))
 
   -- data columns x and y hold noughts
-  left_both : (x y : ℕ) → x < y → y < k - 2 → column (2 + x) s ≡ noughts → column (2 + y) s ≡ noughts
-      → ((e : ℕ) → e < k → e ≢ 2 + x → e ≢ 2 + y → column e s ≡ c e) → Rests x y (c (2 + x)) (c (2 + y)) p q
+  left_both : (x y : ℕ) → x < y → y < k - 2 → s (2 + x) ≡ noughts → s (2 + y) ≡ noughts
+      → ((e : ℕ) → e < k → e ≢ 2 + x → e ≢ 2 + y → s e ≡ c e) → Rests x y (c (2 + x)) (c (2 + y)) p q
   left_both x y xy h zx zy same =
-      let others : (j : ℕ) → j < k - 2 → j ≢ x → j ≢ y → column (2 + j) s ≡ c (2 + j) = λ j l d d'. same (2 + j) (omega arith) (λ e. d (omega arith)) (λ e. d' (omega arith)) in
+      let others : (j : ℕ) → j < k - 2 → j ≢ x → j ≢ y → s (2 + j) ≡ c (2 + j) = λ j l d d'. same (2 + j) (omega arith) (λ e. d (omega arith)) (λ e. d' (omega arith)) in
       record {
         good_p = left.good_p;
         good_q = left.good_q;
@@ -105,43 +105,41 @@ module _ (k : ℕ) (few : 4 ≤ k) (most : k ≤ 12) (c : ℕ → Sector) (cw : 
 
 -- ---- with the stripe as it was before
 
-pub restores_p : (k i : ℕ) (s u t : List ℕ) (z p q : Sector) → 4 ≤ k → k ≤ 12 → 2 ≤ i → i < k → z ≡ noughts → Written i z s u → Left k u p q → Written i p u t → Restores k i 1 s t
+pub restores_p : (k i : ℕ) (s u t : ℕ → Sector) (z p q : Sector) → 4 ≤ k → k ≤ 12 → 2 ≤ i → i < k → z ≡ noughts → Written i z s u → Left k u p q → Written i p u t → Restores k i 1 s t
 restores_p k i s u t z p q few most l h ez cl left wr =
     let ei : 2 + (i - 2) ≡ i = omega arith in record {
       here = λ c cw but.
           wr.here
-          ∙ left_p k few most c cw u p q left (i - 2) (omega arith) (ap (λ (n : ℕ). column n u) ei ∙ cl.here ∙ ez) (λ e le ni n1. let n : e ≢ i = λ y. ni (y ∙ sym ei) in cl.others e n ∙ but e le n n1)
+          ∙ left_p k few most c cw u p q left (i - 2) (omega arith) (ap u ei ∙ cl.here ∙ ez) (λ e le ni n1. let n : e ≢ i = λ y. ni (y ∙ sym ei) in cl.others e n ∙ but e le n n1)
           ∙ ap c ei;
       others = λ e ne. wr.others e ne ∙ cl.others e ne;
-      long = wr.long ∙ cl.long;
     }
 
-pub restores_q : (k i : ℕ) (s u t : List ℕ) (z p q r : Sector) → 4 ≤ k → k ≤ 12 → 2 ≤ i → i < k → z ≡ noughts → Written i z s u → Left k u p q
+pub restores_q : (k i : ℕ) (s u t : ℕ → Sector) (z p q r : Sector) → 4 ≤ k → k ≤ 12 → 2 ≤ i → i < k → z ≡ noughts → Written i z s u → Left k u p q
     → r ≡ map (product8 (power (255 - (i - 2)))) q → Written i r u t → Restores k i 0 s t
 restores_q k i s u t z p q r few most l h ez cl left er wr =
     let ei : 2 + (i - 2) ≡ i = omega arith in record {
       here = λ c cw but.
           wr.here
-          ∙ left_q k few most c cw u p q left (i - 2) (omega arith) (ap (λ (n : ℕ). column n u) ei ∙ cl.here ∙ ez) (λ e le ni n0. let n : e ≢ i = λ y. ni (y ∙ sym ei) in cl.others e n ∙ but e le n n0) r er
+          ∙ left_q k few most c cw u p q left (i - 2) (omega arith) (ap u ei ∙ cl.here ∙ ez) (λ e le ni n0. let n : e ≢ i = λ y. ni (y ∙ sym ei) in cl.others e n ∙ but e le n n0) r er
           ∙ ap c ei;
       others = λ e ne. wr.others e ne ∙ cl.others e ne;
-      long = wr.long ∙ cl.long;
     }
 
-pub mends_both : (k a b : ℕ) (s u v t₁ t : List ℕ) (z z' p q p' q' : Sector) → 4 ≤ k → k ≤ 12 → 2 ≤ a → a < b → b < k → z ≡ noughts → z' ≡ noughts
+pub mends_both : (k a b : ℕ) (s u v t₁ t : ℕ → Sector) (z z' p q p' q' : Sector) → 4 ≤ k → k ≤ 12 → 2 ≤ a → a < b → b < k → z ≡ noughts → z' ≡ noughts
     → Written a z s u → Written b z' u v → Left k v p q → Solves (a - 2) (b - 2) p q p' q' → Written a p' v t₁ → Written b q' t₁ t → MendsTwo k a b s t
 mends_both k a b s u v t₁ t z z' p q p' q' few most la ab lb ez ez' ca cb left so wa wb c cw but i h =
     let ea : 2 + (a - 2) ≡ a = omega arith in
     let eb : 2 + (b - 2) ≡ b = omega arith in
     let na : a ≢ b = λ e. omega arith in
     let rests = left_both k few most c cw v p q left (a - 2) (b - 2) (omega arith) (omega arith)
-    (ap (λ (n : ℕ). column n v) ea ∙ cb.others a na ∙ ca.here ∙ ez) (ap (λ (n : ℕ). column n v) eb ∙ cb.here ∙ ez')
+    (ap v ea ∙ cb.others a na ∙ ca.here ∙ ez) (ap v eb ∙ cb.here ∙ ez')
     (λ e le nea neb. let m : e ≢ a = λ y. nea (y ∙ sym ea) in let n : e ≢ b = λ y. neb (y ∙ sym eb) in cb.others e n ∙ ca.others e m ∙ but e le m n) in
     let had = so (c (2 + (a - 2))) (c (2 + (b - 2))) (cw.good (2 + (a - 2))) (cw.good (2 + (b - 2))) rests in
     elim (cases_eq i b) [
-      | inl e ↦ ap (λ (n : ℕ). column n t) e ∙ wb.here ∙ had.1 ∙ ap c (eb ∙ sym e)
+      | inl e ↦ ap t e ∙ wb.here ∙ had.1 ∙ ap c (eb ∙ sym e)
       | inr nb ↦ wb.others i nb ∙ elim (cases_eq i a) [
-        | inl e ↦ ap (λ (n : ℕ). column n t₁) e ∙ wa.here ∙ had.0 ∙ ap c (ea ∙ sym e)
+        | inl e ↦ ap t₁ e ∙ wa.here ∙ had.0 ∙ ap c (ea ∙ sym e)
         | inr ne ↦ wa.others i ne ∙ cb.others i nb ∙ ca.others i ne ∙ but i h ne nb
       ]
     ]

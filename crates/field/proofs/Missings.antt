@@ -1,6 +1,7 @@
 -- What is known of a stripe's columns, one after the other, and what mending those that are missing gives.
 -- Assumes nothing.
-use Rattle.std.proofs.Common.{◌≡◌, ℕ, ◌+◌, ◌<◌, ◌≢◌, List, sym, refl, subst, arith, below_more}
+use Rattle.std.proofs.Common.{◌≡◌, ℕ, ◌+◌, ◌<◌, ◌≢◌, sym, refl, subst, arith, below_more}
+use Rattle.field.specs.Column.{Sector}
 use Rattle.field.specs.Stripe.{MendsTwo}
 use Rattle.field.specs.Missing.{and_also, Within, Known, Mends}
 use Rattle.field.specs.declared.missing.Missing.{Missing}
@@ -37,5 +38,5 @@ known_weaker k (One a) P Q D E p d h = (h.0, d a h.1, λ e b x. p e b (h.2 e b x
 known_weaker k (Two a b) P Q D E p d h = (h.0, h.1, d a h.2, d b h.3, λ e l x y. p e l (h.4 e l x y))
 
 -- one of P and Q is missing, and both are made anew
-pub mends_parity : (k a : ℕ) (m : Missing) (s t : List ℕ) → m ≡ One a → a < 2 → MendsTwo k 0 1 s t → Mends k m s t
+pub mends_parity : (k a : ℕ) (m : Missing) (s t : ℕ → Sector) → m ≡ One a → a < 2 → MendsTwo k 0 1 s t → Mends k m s t
 mends_parity k a m s t e l h = subst (λ (n : Missing). Mends k n s t) (sym e) (λ c w known. h c w (λ i b n0 n1. known.2 i b (λ ia. omega arith)))

@@ -1,34 +1,56 @@
--- A column in a slice, after a write.
+-- The stripe that lies in a slice of columns, and the one in a slice of words.
 -- Assumes nothing.
-use Rattle.std.proofs.Common.{◌≡◌, ℕ, ◌+◌, ◌-◌, ◌*◌, ◌<◌, ◌≤◌, ◌≢◌, List, length, take, drop, sym, ap, ◌∙◌, subst, inl, inr, arith, length-append, length-drop, length-take}
-use borrow.Rule.Slice.PartMut.{put_mid}
-use Rattle.std.proofs.lemmas.Bool.{cases_lt}
-use Rattle.std.proofs.lemmas.Slice.{between_is, take-put_mid_below, between-put_mid, drop-put_mid}
-use Rattle.field.specs.Column.{Sector}
-use Rattle.field.specs.Stripe.{column, Written}
+use Rattle.std.proofs.Common.{◌≡◌, ℕ, ◌+◌, ◌-◌, ◌<◌, ◌≤◌, List, length, get_or, set, sym, ◌∙◌, subst, inl, inr, arith}
+use Rattle.std.proofs.lemmas.Bool.{cases_lt, cases_eq}
+use Rattle.std.proofs.lemmas.List.{get_or_past, get_or-set_same, get_or-set_other, get_or_default, length-set}
+use Rattle.field.specs.Column.{Sector, noughts, Good, IsP, IsQ}
+use Rattle.field.specs.Stripe.{held, data_of, Anew, Written, Codeword, Lies}
+use Rattle.field.proofs.Totals.{good_noughts}
 
-module _ (n m : ℕ) (xs ys : List ℕ) (l : 64 * n + 64 ≤ length xs) (q : length ys ≡ 64) (w : m ≡ 64) where
-  column_here : column n (put_mid (64 * n) m xs ys) ≡ ys
-  column_here =
-      let e : (64 * n + 64) - 64 * n ≡ 64 = omega arith in
-      subst (λ (z : ℕ). take z (drop (64 * n) (put_mid (64 * n) m xs ys)) ≡ ys) e (between-put_mid (64 * n) m xs ys (64 * n + 64) (omega arith) (omega arith))
+-- behind its last column are noughts
+pub held_beyond : (s : List Sector) (i : ℕ) → length s ≤ i → held s i ≡ noughts
+unfolding held
+held_beyond s i h = get_or_past s i noughts h
 
-  column_below : (e : ℕ) → e < n → column e (put_mid (64 * n) m xs ys) ≡ column e xs
-  column_below e h =
-      let j : (64 * e + 64) - 64 * e ≡ 64 = omega arith in
-      let below = take-put_mid_below (64 * n) m xs ys (64 * e + 64) (omega arith) (omega arith) in
-      subst (λ (z : ℕ). take z (drop (64 * e) (put_mid (64 * n) m xs ys)) ≡ take z (drop (64 * e) xs)) j
-      (between_is (put_mid (64 * n) m xs ys) (64 * e) (64 * e + 64) ∙ (ap (drop (64 * e)) below ∙ sym (between_is xs (64 * e) (64 * e + 64))))
+-- a column is read there
+pub held_at : (s : List Sector) (i : ℕ) (d : Sector) → i < length s → get_or s i d ≡ held s i
+unfolding held
+held_at s i d h = get_or_default s i d noughts h
 
-  column_above : (e : ℕ) → n < e → column e (put_mid (64 * n) m xs ys) ≡ column e xs
-  column_above e h = ap (take 64) (drop-put_mid (64 * n) m xs ys (64 * e) (omega arith) (omega arith) (q ∙ sym w))
+-- what the write of a column does
+pub written : (i : ℕ) (w : Sector) (s : List Sector) → i < length s → Written i w (held s) (held (set s i w))
+unfolding held
+written i w s h = record { here = get_or-set_same s i w noughts h; others = λ e ne. get_or-set_other s i e w noughts ne }
 
-  column_other : (e : ℕ) → e ≢ n → column e (put_mid (64 * n) m xs ys) ≡ column e xs
-  column_other e h = elim (cases_lt e n) [ inl lt ↦ column_below e lt | inr ge ↦ column_above e (omega arith) ]
+-- columns of 64 words that fit are good, and so is what lies behind them
+pub good_held : (s : List Sector) → ((i : ℕ) → i < length s → Good (held s i)) → (i : ℕ) → Good (held s i)
+good_held s h i = elim (cases_lt i (length s)) [
+  | inl lt ↦ h i lt
+  | inr ge ↦ subst Good (sym (held_beyond s i ge)) good_noughts
+]
 
-  -- what a write of a column does
-  pub written : (u : Sector) → ys ≡ u → Written n u xs (put_mid (64 * n) m xs ys)
-  written u e = record { here = column_here ∙ e; others = column_other; long = simp (length-append, length-take, length-drop) (omega arith) }
+-- P and Q anew
+pub anew : (s : List Sector) (p q : Sector) → 2 ≤ length s → IsP (length s - 2) (data_of (held s)) p → IsQ (length s - 2) (data_of (held s)) q → ((j : ℕ) → Good (held s (2 + j)))
+    → Anew (length s) (held s) (held (set (set s 0 p) 1 q)) × ((i : ℕ) → Good (held (set (set s 0 p) 1 q) i))
+anew s p q few is_p is_q h =
+    let l : length (set s 0 p) ≡ length s = length-set s 0 p in
+    let first = written 0 p s (omega arith) in
+    let second = written 1 q (set s 0 p) (omega arith) in
+    let at0 = second.others 0 (λ e. omega arith) ∙ first.here in
+    let others : (e : ℕ) → 2 ≤ e → held (set (set s 0 p) 1 q) e ≡ held s e = λ e b. second.others e (λ n. omega arith) ∙ first.others e (λ n. omega arith) in (
+      record { is_p = subst (IsP (length s - 2) (data_of (held s))) (sym at0) is_p; is_q = subst (IsQ (length s - 2) (data_of (held s))) (sym second.here) is_q; others = others },
+      λ i. elim (cases_lt i 2) [
+        | inl few ↦ elim (cases_eq i 0) [
+          | inl e ↦ subst (λ (n : ℕ). Good (held (set (set s 0 p) 1 q) n)) (sym e) (subst Good (sym at0) is_p.good)
+          | inr n0 ↦ let e : i ≡ 1 = omega arith in subst (λ (n : ℕ). Good (held (set (set s 0 p) 1 q) n)) (sym e) (subst Good (sym second.here) is_q.good)
+        ]
+        | inr ge ↦ let e : 2 + (i - 2) ≡ i = omega arith in subst Good (sym (others i ge)) (subst (λ (n : ℕ). Good (held s n)) e (h (i - 2)))
+      ],
+    )
 
-pub length-column : (i : ℕ) (s : List ℕ) → 64 * i + 64 ≤ length s → length (column i s) ≡ 64
-length-column i s h = simp (length-take, length-drop) (omega arith)
+-- the codeword that lies there is what's held
+pub held_is : (s : List Sector) (c : ℕ → Sector) → Codeword (length s) c → Lies (length s) (held s) c → (i : ℕ) → held s i ≡ c i
+held_is s c cw lies i = elim (cases_lt i (length s)) [
+  | inl lt ↦ lies i lt
+  | inr ge ↦ held_beyond s i ge ∙ sym (cw.beyond i ge)
+]

@@ -1,8 +1,8 @@
 -- Which columns of a stripe are missing, at most two, and what mending them is.
 -- Assumes nothing.
-use Rattle.std.specs.Prelude.{◌≡◌, ℕ, ◌<◌, ◌≢◌, List}
+use Rattle.std.specs.Prelude.{◌≡◌, ℕ, ◌<◌, ◌≢◌}
 use Rattle.field.specs.Column.{Sector}
-use Rattle.field.specs.Stripe.{column, Codeword, Lies}
+use Rattle.field.specs.Stripe.{Codeword, Lies}
 use Rattle.field.specs.declared.missing.Missing.{Missing}
 use Rattle.field.specs.declared.missing.Missing.TheVariants.{Nothing, One, Two}
 
@@ -25,5 +25,5 @@ Known n (One a) P D = (a < n) × D a × ((e : ℕ) → e < n → e ≢ a → P e
 Known n (Two a b) P D = (a < b) × (b < n) × D a × D b × ((e : ℕ) → e < n → e ≢ a → e ≢ b → P e)
 
 -- t has all k columns of whatever codeword s has those of that aren't missing
-abbrev pub Mends : ℕ → Missing → List ℕ → List ℕ → Type 0
-Mends k m s t = (c : ℕ → Sector) → Codeword k c → Known k m (λ e. column e s ≡ c e) (λ _. Unit {0}) → Lies k t c
+abbrev pub Mends : ℕ → Missing → (s t : ℕ → Sector) → Type 0
+Mends k m s t = (c : ℕ → Sector) → Codeword k c → Known k m (λ e. s e ≡ c e) (λ _. Unit {0}) → Lies k t c

@@ -1,6 +1,6 @@
 -- A stripe of k columns: column 0 is P, 1 is Q, and 2 + j is data column j. Behind the k columns that there are all count as noughts.
 -- Assumes nothing.
-use Rattle.std.specs.Prelude.{◌≡◌, ℕ, ◌+◌, ◌-◌, ◌*◌, ◌<◌, ◌≤◌, cond, ◌≢◌, List, [], ◌∷◌, length, take, drop, replicate, nat_lt, slice_index}
+use Rattle.std.specs.Prelude.{◌≡◌, ℕ, ◌+◌, ◌-◌, ◌*◌, ◌<◌, ◌≤◌, ◌≢◌, List, [], ◌∷◌, length, take, drop, replicate, slice_index, slice_index_or}
 use Rattle.field.specs.Field.{sum, product, power}
 use Rattle.field.specs.Column.{Sector, noughts, Good, byte_at, total, IsP, IsQ}
 
@@ -15,54 +15,62 @@ pub record Codeword (k : ℕ) (c : ℕ → Sector) : Type 0 where
   pub parity_p : IsP (k - 2) (data_of c) (c 0)
   pub parity_q : IsQ (k - 2) (data_of c) (c 1)
 
--- ---- a stripe in a slice of words, one column behind the other
+-- a stripe has 4 to 12 columns
+abbrev pub Few : ℕ → Type 0
+Few k = (4 ≤ k) × (k ≤ 12)
 
--- column i of a slice
+-- ---- a stripe that is held: a column for each number
+
+-- the stripe that lies in a slice of columns
+unfoldable pub held : List Sector → ℕ → Sector
+held s i = slice_index_or s i noughts
+
+-- column i of a stripe in a slice of words, one column behind the other
 abbrev pub column : ℕ → List ℕ → Sector
 column i s = take 64 (drop (64 * i) s)
 
--- the stripe that lies in s
-unfoldable pub held : ℕ → List ℕ → ℕ → Sector
-held k s i = cond (nat_lt i k) (column i s) noughts
+-- the columns cs are those of a stripe of k in the words s
+pub record Cut (k : ℕ) (s : List ℕ) (cs : List Sector) : Type 0 where
+  pub few : Few k
+  pub words : length s ≡ 64 * k
+  pub long : length cs ≡ k
+  pub same : (i : ℕ) → i < k → held cs i ≡ column i s
 
 -- s has c's columns
-abbrev pub Lies : ℕ → List ℕ → (ℕ → Sector) → Type 0
-Lies k s c = (i : ℕ) → i < k → column i s ≡ c i
+abbrev pub Lies : ℕ → (s c : ℕ → Sector) → Type 0
+Lies k s c = (i : ℕ) → i < k → s i ≡ c i
 
 -- all but a and b
-abbrev pub LiesBut : ℕ → ℕ → ℕ → List ℕ → (ℕ → Sector) → Type 0
-LiesBut k a b s c = (i : ℕ) → i < k → i ≢ a → i ≢ b → column i s ≡ c i
+abbrev pub LiesBut : ℕ → ℕ → ℕ → (s c : ℕ → Sector) → Type 0
+LiesBut k a b s c = (i : ℕ) → i < k → i ≢ a → i ≢ b → s i ≡ c i
 
 -- ---- what is done to it
 
 -- column i anew, and no other
-pub record Written (i : ℕ) (w : Sector) (s t : List ℕ) : Type 0 where
-  pub here : column i t ≡ w
-  pub others : (e : ℕ) → e ≢ i → column e t ≡ column e s
-  pub long : length t ≡ length s
+pub record Written (i : ℕ) (w : Sector) (s t : ℕ → Sector) : Type 0 where
+  pub here : t i ≡ w
+  pub others : (e : ℕ) → e ≢ i → t e ≡ s e
 
 -- P and Q anew, from the data columns, which stay
-pub record Anew (k : ℕ) (s t : List ℕ) : Type 0 where
-  pub is_p : IsP (k - 2) (data_of (λ i. column i s)) (column 0 t)
-  pub is_q : IsQ (k - 2) (data_of (λ i. column i s)) (column 1 t)
-  pub others : (e : ℕ) → 2 ≤ e → column e t ≡ column e s
-  pub long : length t ≡ length s
+pub record Anew (k : ℕ) (s t : ℕ → Sector) : Type 0 where
+  pub is_p : IsP (k - 2) (data_of s) (t 0)
+  pub is_q : IsQ (k - 2) (data_of s) (t 1)
+  pub others : (e : ℕ) → 2 ≤ e → t e ≡ s e
 
 -- p and q are what is left of P and Q in s when its data are taken out
-pub record Left (k : ℕ) (s : List ℕ) (p q : Sector) : Type 0 where
+pub record Left (k : ℕ) (s : ℕ → Sector) (p q : Sector) : Type 0 where
   pub good_p : Good p
   pub good_q : Good q
-  pub in_p : (w b : ℕ) → w < 64 → b < 8 → byte_at w b p ≡ sum (total (k - 2) (λ j. byte_at w b (column (2 + j) s))) (byte_at w b (column 0 s))
-  pub in_q : (w b : ℕ) → w < 64 → b < 8 → byte_at w b q ≡ sum (total (k - 2) (λ j. product (power j) (byte_at w b (column (2 + j) s)))) (byte_at w b (column 1 s))
+  pub in_p : (w b : ℕ) → w < 64 → b < 8 → byte_at w b p ≡ sum (total (k - 2) (λ j. byte_at w b (s (2 + j)))) (byte_at w b (s 0))
+  pub in_q : (w b : ℕ) → w < 64 → b < 8 → byte_at w b q ≡ sum (total (k - 2) (λ j. product (power j) (byte_at w b (s (2 + j))))) (byte_at w b (s 1))
 
 -- column i of whatever codeword s has all columns of but i and m; the others stay
-pub record Restores (k i m : ℕ) (s t : List ℕ) : Type 0 where
-  pub here : (c : ℕ → Sector) → Codeword k c → LiesBut k i m s c → column i t ≡ c i
-  pub others : (e : ℕ) → e ≢ i → column e t ≡ column e s
-  pub long : length t ≡ length s
+pub record Restores (k i m : ℕ) (s t : ℕ → Sector) : Type 0 where
+  pub here : (c : ℕ → Sector) → Codeword k c → LiesBut k i m s c → t i ≡ c i
+  pub others : (e : ℕ) → e ≢ i → t e ≡ s e
 
 -- t has all columns of whatever codeword s has all but a and b of
-abbrev pub MendsTwo : ℕ → ℕ → ℕ → List ℕ → List ℕ → Type 0
+abbrev pub MendsTwo : ℕ → ℕ → ℕ → (s t : ℕ → Sector) → Type 0
 MendsTwo k a b s t = (c : ℕ → Sector) → Codeword k c → LiesBut k a b s c → Lies k t c
 
 -- d is a codeword with w for data column j, and c's other data columns

@@ -1,59 +1,39 @@
-// A column's sector of 64 words: sums, products by a constant, and its part in P and Q.
+// A column's sector: sums, products by a constant, and its part in P and Q.
 // It touches nothing but the words that it is lent. What goes over words tells its steps: each sum and each doubling of a word is one.
-ghost use Rattle.std.specs.Prelude.{◌≡◌, ◌+◌, ◌-◌, ◌<◌, ◌≤◌, map, length, replicate};
+ghost use Rattle.std.specs.Prelude.{◌≡◌, ◌+◌, ◌-◌, ◌*◌, ◌<◌, ◌≤◌, map};
 ghost use Rattle.field.specs.Field.{power, neighbour};
-ghost use Rattle.field.specs.Word.{double8, product8};
-ghost use Rattle.field.specs.Column.{add, Solves};
+ghost use Rattle.field.specs.Word.{product8};
+ghost use Rattle.field.specs.Column.{Good, add, Solves};
 
-use crate::word;
+use crate::product::{PRODUCT_STEPS, times};
+use crate::raising::{Plain, Raising};
 
-// Noughts all over.
-pub fn clear(words: &mut [u64])
-    ensures { words.new ≡ replicate (length words.old) 0 }
-{
-    for i in 0..words.len() {
-        words[i] = 0;
-    }
-}
+// What a column has at one place of a disk: 512 elements, eight to a word.
+pub type Sector = [u64; 64];
 
-// Adds `other` to `to`.
-pub fn add_to(to: &mut [u64], other: &[u64]) -> usize
-    requires { (length to.old ≡ length other.now) × (length to.old ≡ 64) }
-    ensures value { to.new ≡ add to.old other.now }
-    ensures steps { result ≡ 64 }
+// Raises each word of `to` and adds `other`.
+pub fn add_to<R: Raising>(to: &mut Sector, other: &Sector) -> usize
+    ensures value { to.new ≡ add (map R.raise to.old) other.now }
+    ensures good { Good other.now }
+    ensures steps { result ≡ 64 * (R.STEPS + 1) }
 {
     let mut steps = 0;
-    for i in 0..to.len() {
-        to[i] ^= other[i];
-        steps += 1;
-    }
-    steps
-}
-
-// Twice `to`, and `other` added to it.
-pub fn double_and_add(to: &mut [u64], other: &[u64]) -> usize
-    requires { (length to.old ≡ length other.now) × (length to.old ≡ 64) }
-    ensures value { to.new ≡ add (map double8 to.old) other.now }
-    ensures steps { result ≡ 128 }
-{
-    let mut steps = 0;
-    for i in 0..to.len() {
-        to[i] = word::doubled(to[i]) ^ other[i];
-        steps += 2;
+    for (i, word) in to.iter_mut().enumerate() {
+        *word = R::raised(*word) ^ other[i];
+        steps += R::STEPS + 1;
     }
     steps
 }
 
 // Each element times `c`.
-fn scale(words: &mut [u64], c: u8) -> usize
-    requires { length words.old ≡ 64 }
+fn scale(words: &mut Sector, c: u8) -> usize
     ensures value { words.new ≡ map (product8 c) words.old }
     ensures steps { result ≡ 1024 }
 {
     let mut steps = 0;
-    for i in 0..words.len() {
-        words[i] = word::product(c, words[i]);
-        steps += word::PRODUCT_STEPS;
+    for word in words.iter_mut() {
+        *word = times(c, *word);
+        steps += PRODUCT_STEPS;
     }
     steps
 }
@@ -79,8 +59,8 @@ fn apart(d: usize) -> u8
 }
 
 // Divides by 2^x.
-pub fn lower(words: &mut [u64], x: usize) -> usize
-    requires { (x < 10) × (length words.old ≡ 64) }
+pub fn lower(words: &mut Sector, x: usize) -> usize
+    requires { x < 10 }
     ensures value { words.new ≡ map (product8 (power (255 - x))) words.old }
     ensures steps { result ≡ 1024 }
 {
@@ -88,14 +68,13 @@ pub fn lower(words: &mut [u64], x: usize) -> usize
 }
 
 // The columns x and y from their sum in `p` and the sum of their multiples by 2^x and 2^y in `q`.
-pub fn solve(p: &mut [u64], q: &mut [u64], x: usize, y: usize) -> usize
-    requires apart { (x < y) × (y < 10) }
-    requires lent { (length p.old ≡ 64) × (length q.old ≡ 64) }
+pub fn solve(p: &mut Sector, q: &mut Sector, x: usize, y: usize) -> usize
+    requires { (x < y) × (y < 10) }
     ensures value { Solves x y p.old q.old p.new q.new }
     ensures steps { result ≡ 2176 }
 {
     let lowered = lower(q, x);
-    let joined = add_to(q, p);
+    let joined = add_to::<Plain>(q, p);
     let parted = scale(q, apart(y - x));
-    lowered + joined + parted + add_to(p, q)
+    lowered + joined + parted + add_to::<Plain>(p, q)
 }

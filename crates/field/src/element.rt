@@ -1,12 +1,28 @@
 // One element of the field, by a table of doubles. It is what the laws are about; stripes go over whole words.
 // It touches nothing.
 ghost use Rattle.std.specs.Prelude.{◌≡◌, ◌<◌};
-ghost use Rattle.field.specs.Field.{sum, double, pick, product};
+ghost use Rattle.field.specs.Field.{sum, double, product};
 
-#[derive(Clone, Copy)]
+use crate::product::{Doubles, times};
+use std::marker::Model;
+use std::ops::{Add, Mul};
+
+#[derive(Clone, Copy, PartialEq, Eq, Debug)]
 pub struct Element {
-    value: u64,
-    ghost ok: { value < 256 },
+    byte: u8,
+}
+
+// An element is its byte.
+impl Model for Element {
+    ghost use Rattle.std.specs.Prelude.{ℕ, ◌<◌};
+
+    ghost Value = { ℕ };
+
+    ghost view = { λ e. e.byte };
+
+    ghost invariant = { λ e. e.byte < 256 };
+
+    ghost inverse = { λ n. record { byte = n } };
 }
 
 // Twice each element.
@@ -27,51 +43,63 @@ const TWICE: [u8; 256] = *b"\x00\x02\x04\x06\x08\x0a\x0c\x0e\x10\x12\x14\x16\x18
 \xdd\xdf\xd9\xdb\xd5\xd7\xd1\xd3\xcd\xcf\xc9\xcb\xc5\xc7\xc1\xc3\
 \xfd\xff\xf9\xfb\xf5\xf7\xf1\xf3\xed\xef\xe9\xeb\xe5\xe7\xe1\xe3";
 
-impl Element {
-    pub fn new(byte: u8) -> Element
-        ensures { result.value ≡ byte }
-    {
-        Element { value: byte as u64 }
-    }
+impl From<u8> for Element {
+    ghost from_gives = { λ byte r. r ≡ byte };
 
-    pub fn byte(self) -> u8
-        ensures { result ≡ self.value }
-    {
-        self.value as u8
+    fn from(byte: u8) -> Element {
+        Element { byte }
     }
+}
 
-    pub fn plus(self, other: Element) -> Element
-        ensures { result.value ≡ sum self.value other.value }
-    {
+impl From<Element> for u8 {
+    ghost from_gives = { λ e r. r ≡ e };
+
+    fn from(e: Element) -> u8 {
+        e.byte
+    }
+}
+
+// A sum of elements has no carry.
+impl Add for Element {
+    type Output = Element;
+
+    ghost add_gives = { λ a b r. r ≡ sum a b };
+
+    fn add(self, other: Element) -> Element {
         Element {
-            value: self.value ^ other.value,
+            byte: self.byte ^ other.byte,
         }
     }
+}
 
-    // Twice the element, by the table.
-    pub fn twice(self) -> Element
-        ensures { result.value ≡ double self.value }
-    {
+// Doubles are looked up.
+impl Doubles for Element {
+    ghost number = { λ e. e };
+
+    ghost double = { double };
+
+    fn nought() -> Element {
+        Element::from(0)
+    }
+
+    fn plus(self, other: Element) -> Element {
+        self + other
+    }
+
+    fn twice(self) -> Element {
         Element {
-            value: TWICE[self.value as usize] as u64,
+            byte: TWICE[usize::from(self.byte)],
         }
     }
+}
 
-    // The element, or 0.
-    fn picked(self, bit: u64) -> Element
-        ensures { result.value ≡ pick bit self.value }
-    {
-        if bit == 0 { Element::new(0) } else { self }
-    }
+// The product, from the highest bit of `self` on.
+impl Mul for Element {
+    type Output = Element;
 
-    // The product, from the highest bit of `self` on.
-    pub fn times(self, other: Element) -> Element
-        ensures { result.value ≡ product self.value other.value }
-    {
-        let mut r = Element::new(0);
-        for j in 0..8u32 {
-            r = other.picked((self.value >> (7 - j)) % 2).plus(r.twice());
-        }
-        r
+    ghost mul_gives = { λ a b r. r ≡ product a b };
+
+    fn mul(self, other: Element) -> Element {
+        times(self.byte, other)
     }
 }

@@ -1,9 +1,26 @@
 // Which columns of a stripe are missing: none, one or two.
 // It touches nothing.
-#[derive(Clone, Copy)]
+ghost use Rattle.std.specs.Prelude.{◌≡◌};
+
+#[derive(Clone, Copy, PartialEq, Eq, Debug)]
 pub enum Missing {
     Nothing,
     One(usize),
     // the lower one first
     Two(usize, usize),
+}
+
+impl Missing {
+    ghost use Rattle.field.specs.Missing.{and_also};
+
+    // Column i is missing too, of which there are never three.
+    pub fn also(self, i: usize) -> Missing
+        ensures { result ≡ and_also self i }
+    {
+        match self {
+            Missing::Nothing => Missing::One(i),
+            Missing::One(a) => Missing::Two(a, i),
+            Missing::Two(a, b) => Missing::Two(a, b),
+        }
+    }
 }

@@ -8,19 +8,19 @@ ghost use Rattle.field.specs.Stripe.{column, data_of, Anew, MendsTwo};
 // P and Q anew, in a stripe of k columns.
 #[unsafe(no_mangle)]
 pub extern "C" fn field_make_parity(stripe: &mut [u64], k: usize) -> bool
-    ensures made { result ≡ true → Anew k stripe.old stripe.new }
+    ensures made { result ≡ true → Anew k (λ i. column i stripe.old) (λ i. column i stripe.new) }
     ensures refused { result ≡ false → stripe.new ≡ stripe.old }
 {
-    field::field_make_parity(stripe, k)
+    field::try_make_parity(stripe, k).is_ok()
 }
 
 // Columns a and b from the others, a < b, in a stripe of k columns.
 #[unsafe(no_mangle)]
 pub extern "C" fn field_mend(stripe: &mut [u64], k: usize, a: usize, b: usize) -> bool
-    ensures made { result ≡ true → MendsTwo k a b stripe.old stripe.new }
+    ensures made { result ≡ true → MendsTwo k a b (λ i. column i stripe.old) (λ i. column i stripe.new) }
     ensures refused { result ≡ false → stripe.new ≡ stripe.old }
 {
-    field::field_mend(stripe, k, a, b)
+    field::try_mend(stripe, k, a, b).is_ok()
 }
 
 // P and Q of a stripe of k columns into `p` and `q`, by the element's table.
@@ -35,5 +35,5 @@ pub extern "C" fn field_parity_by_table(
     ensures is_q { result ≡ true → IsQ (k - 2) (data_of (λ i. column i stripe.now)) q.new }
     ensures refused { result ≡ false → (p.new ≡ p.old) × (q.new ≡ q.old) }
 {
-    field::field_parity_by_table(stripe, k, p, q)
+    field::try_parity_by_table(stripe, k, p, q).is_ok()
 }

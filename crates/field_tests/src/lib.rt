@@ -2,24 +2,24 @@
 // They stand apart from the field, whose proof is then done once.
 #![tactic(auto)]
 
-ghost use Rattle.std.specs.Prelude.{◌≡◌, ◌+◌, ◌*◌, ◌<◌, ◌≤◌, length};
+ghost use Rattle.std.specs.Prelude.{◌<◌};
 
 #[cfg(test)]
 mod tests {
-    use field::{Element, Missing};
+    use field::{Doubles, Element, Missing, Sector};
 
     fn power(n: u32) -> u8 {
-        let mut r = Element::new(1);
+        let mut r = Element::from(1);
         for _ in 0..n {
             r = r.twice();
         }
-        r.byte()
+        u8::from(r)
     }
 
     #[test]
     fn twice_0x80_is_0x1d(rt: HostRuntime) {
-        assert_eq!(rt; Element::new(0x80).twice().byte(), 0x1d);
-        assert_eq!(rt; Element::new(2).times(Element::new(0x80)).byte(), 0x1d);
+        assert_eq!(rt; Element::from(0x80).twice(), Element::from(0x1d));
+        assert_eq!(rt; Element::from(2) * Element::from(0x80), Element::from(0x1d));
     }
 
     #[test]
@@ -32,80 +32,63 @@ mod tests {
 
     #[test]
     fn sums_and_products(rt: HostRuntime) {
-        assert_eq!(rt; Element::new(0x53).plus(Element::new(0xca)).byte(), 0x99);
-        assert_eq!(rt; Element::new(3).times(Element::new(7)).byte(), 9);
-        assert_eq!(rt; Element::new(0xff).times(Element::new(0xff)).byte(), 0xe2);
-        assert_eq!(rt; Element::new(2).times(Element::new(0x8e)).byte(), 1);
+        assert_eq!(rt;
+            Element::from(0x53) + Element::from(0xca),
+            Element::from(0x99)
+        );
+        assert_eq!(rt; Element::from(3) * Element::from(7), Element::from(9));
+        assert_eq!(rt;
+            Element::from(0xff) * Element::from(0xff),
+            Element::from(0xe2)
+        );
+        assert_eq!(rt; Element::from(2) * Element::from(0x8e), Element::from(1));
     }
 
-    fn fill(words: &mut [u64], word: u64) {
-        for i in 0..words.len() {
-            words[i] = word;
-        }
-    }
-
-    // Something else in column i's place.
-    fn spoil(stripe: &mut [u64], i: usize)
-        requires { (i < 12) × (64 * i + 64 ≤ length stripe.old) }
-    {
-        fill(&mut stripe[64 * i..64 * i + 64], 0xdead_beef);
-    }
+    // What stands in the place of a column that is lost.
+    const SPOILT: Sector = [0xdead_beef; 64];
 
     #[test]
     fn six_columns(rt: HostRuntime) {
-        let mut stripe = [0u64; 384];
-        let _ = field::put(&mut stripe, 6, 0, &[7; 64]);
-        let _ = field::put(&mut stripe, 6, 1, &[8; 64]);
-        let _ = field::put(&mut stripe, 6, 2, &[9; 64]);
-        let _ = field::put(&mut stripe, 6, 3, &[10; 64]);
-        assert_eq!(rt; (stripe[0], stripe[64]), (12, 99));
-        spoil(&mut stripe, 3);
-        spoil(&mut stripe, 4);
-        assert_eq!(rt; field::mend(&mut stripe, 6, Missing::Two(3, 4)), 3072);
-        assert_eq!(rt; (stripe[192], stripe[255]), (8, 8));
-        assert_eq!(rt; (stripe[256], stripe[319]), (9, 9));
+        let mut stripe = [[0; 64]; 6];
+        let _ = field::put(&mut stripe, 0, &[7; 64]);
+        let _ = field::put(&mut stripe, 1, &[8; 64]);
+        let _ = field::put(&mut stripe, 2, &[9; 64]);
+        let _ = field::put(&mut stripe, 3, &[10; 64]);
+        assert_eq!(rt; (stripe[0][0], stripe[1][0]), (12, 99));
+        stripe[3] = SPOILT;
+        stripe[4] = SPOILT;
+        assert_eq!(rt; field::mend(&mut stripe, Missing::Two(3, 4)), 3072);
+        assert_eq!(rt; (stripe[3][0], stripe[3][63]), (8, 8));
+        assert_eq!(rt; (stripe[4][0], stripe[4][63]), (9, 9));
     }
 
     // Numbers in no order.
-    fn scatter(words: &mut [u64]) {
+    fn scatter(stripe: &mut [Sector]) {
         let mut x = 1u64;
-        for i in 0..words.len() {
+        for word in stripe.as_flattened_mut() {
             x = x
                 .wrapping_mul(6364136223846793005)
                 .wrapping_add(1442695040888963407);
-            words[i] = x;
+            *word = x;
         }
-    }
-
-    fn same(s: &[u64], t: &[u64]) -> bool {
-        if s.len() != t.len() {
-            return false;
-        }
-        for i in 0..s.len() {
-            if s[i] != t[i] {
-                return false;
-            }
-        }
-        true
     }
 
     // Columns a and b of twelve are spoilt, and are had again.
-    fn had_again(whole: &[u64], stripe: &mut [u64], a: usize, b: usize) -> bool
-        requires { (length stripe.old ≡ 768) × ((a < b) × (b < 12)) }
+    fn had_again(whole: &[Sector; 12], a: usize, b: usize) -> bool
+        requires { (a < b) × (b < 12) }
     {
-        spoil(stripe, a);
-        spoil(stripe, b);
-        let _ = field::mend(stripe, 12, Missing::Two(a, b));
-        same(whole, stripe)
+        let mut stripe = *whole;
+        stripe[a] = SPOILT;
+        stripe[b] = SPOILT;
+        let _ = field::mend(&mut stripe, Missing::Two(a, b));
+        stripe == *whole
     }
 
-    fn all_had_again(whole: &[u64], stripe: &mut [u64]) -> bool
-        requires { length stripe.old ≡ 768 }
-    {
+    fn all_had_again(whole: &[Sector; 12]) -> bool {
         let mut all = true;
         for a in 0..12usize {
             for b in a + 1..12 {
-                all = all && had_again(whole, stripe, a, b);
+                all = all && had_again(whole, a, b);
             }
         }
         all
@@ -113,10 +96,9 @@ mod tests {
 
     #[test]
     fn any_two_of_twelve(rt: HostRuntime) {
-        let mut stripe = [0u64; 768];
+        let mut stripe = [[0; 64]; 12];
         scatter(&mut stripe);
-        assert_eq!(rt; field::make_parity(&mut stripe, 12), 1920);
-        let whole = stripe;
-        assert!(rt; all_had_again(&whole, &mut stripe));
+        assert_eq!(rt; field::make_parity(&mut stripe), 1920);
+        assert!(rt; all_had_again(&stripe));
     }
 }

@@ -3,14 +3,14 @@ use Rattle.field.specs.Word.{product8}
 use Rattle.field.proofs.Loops.{over_more, over_all}
 use Rattle.field.proofs.column.scale.Goals as goal
 
-pub loop-i-preserved : goal.loop-i-preserved
-loop-i-preserved c = (
-  over_more (product8 c.args.c) c.args.words.now c.loop-i.words c.loop-i.i c.product.result (omega arith) c.loop-i.auto.words c.loop-i.invariant.0 c.product.ensures,
+pub loop-word-preserved : goal.loop-word-preserved
+loop-word-preserved c = (
+  over_more (product8 c.args.c) c.args.words.now c.loop-word.words c.loop-word.word-index c.times.result (omega arith) (omega arith) c.loop-word.invariant.0 c.times.ensures,
   omega arith,
 )
 
 pub returns : goal.returns
 returns c = record {
-  value = over_all (product8 c.args.c) c.args.words.now c.loop-i.words c.loop-i.i (omega arith) c.loop-i.invariant.0;
+  value = over_all (product8 c.args.c) c.args.words.now c.loop-word.words c.loop-word.word-index (omega arith) c.loop-word.invariant.0;
   steps = omega arith;
 }

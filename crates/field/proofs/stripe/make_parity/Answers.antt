@@ -1,18 +1,10 @@
-use Rattle.std.proofs.Common.{◌-◌, sym, ◌∙◌, subst, arith}
-use Rattle.field.specs.Column.{IsP, IsQ}
-use Rattle.field.specs.Stripe.{column, data_of}
+use Rattle.std.proofs.Common.{arith}
+use Rattle.field.proofs.Slices.{anew}
 use Rattle.field.proofs.stripe.make_parity.Goals as goal
 
 pub returns : goal.returns
-returns c =
-    let first = c.write.ensures in
-    let second = c.write-2.ensures in
-    record {
-      anew = record {
-        is_p = subst (IsP (c.args.k - 2) (data_of (λ i. column i c.args.stripe.now))) (sym (second.others 0 (λ e. omega arith) ∙ first.here)) c.parity-steps.ensures.is_p;
-        is_q = subst (IsQ (c.args.k - 2) (data_of (λ i. column i c.args.stripe.now))) (sym second.here) c.parity-steps.ensures.is_q;
-        others = λ e l. second.others e (λ n. omega arith) ∙ first.others e (λ n. omega arith);
-        long = second.long ∙ first.long;
-      };
-      steps = omega arith;
-    }
+returns c = let w = anew c.args.stripe.now c.parity-steps.new.p c.parity-steps.new.q (omega arith) c.parity-steps.ensures.is_p c.parity-steps.ensures.is_q c.parity-steps.ensures.good in record {
+  anew = w.0;
+  good = w.1;
+  steps = omega arith;
+}

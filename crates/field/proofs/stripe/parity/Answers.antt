@@ -1,33 +1,65 @@
-use Rattle.std.proofs.Common.{◌≡◌, ℕ, ◌+◌, ◌-◌, ◌*◌, ◌^◌, ◌<◌, get_or, take, drop, refl, ap, subst, arith, w64, Fits}
-use Rattle.field.proofs.Gathering.{Gathered, gathered_none, gathered_more, gathered_p, gathered_q}
+use Rattle.std.proofs.Common.{◌≡◌, ℕ, ◌+◌, ◌-◌, ◌*◌, ◌≤◌, [], ◌∷◌, ◌++◌, length, drop, refl, ap, ◌∙◌, subst, length-append, length-drop, arith, Iter}
+use Rattle.std.proofs.lemmas.List.{take_all}
+use Rattle.std.specs.declared.iter.Rev.{Rev}
+use Rattle.std.proofs.Math.Nat.{mul-le-mul}
+use Rattle.field.specs.Column.{Sector, Good}
+use Rattle.field.specs.Stripe.{held}
+use Rattle.field.specs.Word.{double8}
+use Rattle.field.proofs.Loops.{not_raised, raised_by}
+use Rattle.field.proofs.Gathering.{Gathered, way_none, way_more, gathered_p, gathered_q}
 use Rattle.field.proofs.stripe.parity.Goals as goal
 
-pub loop-i-init : goal.loop-i-init
-loop-i-init c = (
-  omega arith,
-  gathered_none c.args.k c.args.k _ _ c.args.stripe.now c.clear.new.words c.clear-2.new.words refl c.clear.ensures c.clear-2.ensures,
-  omega arith,
-)
+-- all steps are few enough to be counted
+counted : (s k t r : ℕ) → s ≤ 8 → k ≤ 12 → t + 64 * (s + 2) * r ≡ 64 * (s + 2) * (k - 2) → t ≤ 6400
+counted s k t r ls lk e =
+    let m : (s + 2) * (k - 2) ≤ 10 * 10 = mul-le-mul {n₁ = s + 2} {m₁ = k - 2} {n₂ = 10} {m₂ = 10} (omega arith) (omega arith) in
+    omega (arith, m)
 
-pub loop-i-preserved : goal.loop-i-preserved
-loop-i-preserved c =
-    let i : ℕ = c.loop-i.i - 1 in
-    let n : 64 * i + 64 - 64 * i ≡ 64 = omega arith in (
-      omega arith,
-      gathered_more c.args.k i c.loop-i.i c.args.stripe.now c.loop-i.p c.loop-i.q _ _ _ (omega arith) (omega arith)
-          (ap (λ (m : ℕ). take m (drop (64 * i) c.args.stripe.now)) n) c.loop-i.invariant.1 c.add_to-steps.ensures.value c.double_and_add-steps.ensures.value,
-      omega arith,
-    )
+stepped : (s m n t x y e : ℕ) → m ≡ n + 1 → x ≡ 64 → y ≡ 64 * (s + 1) → t + 64 * (s + 2) * m ≡ e → t + x + y + 64 * (s + 2) * n ≡ e
+stepped s m n t x y e em ex ey h = let z : 64 * (s + 2) * m ≡ 64 * (s + 2) * (n + 1) = ap (λ (i : ℕ). 64 * (s + 2) * i) em in omega arith
+
+pub loop-column-init : goal.loop-column-init
+loop-column-init g c =
+    let l : length (drop 2 c.args.stripe.now) ≡ length c.args.stripe.now - 2 = length-drop 2 c.args.stripe.now in
+    let e : c.into_iter-column-iterator.result.iter.rest.now ≡ drop 2 c.args.stripe.now
+    = ap (λ (r : Rev (Iter Sector)). r.iter.rest.now) c.into_iter-column-iterator.ensures.into_iter_gives ∙ ap (λ (r : Iter Sector). r.rest.now) c.rev-column-items.ensures.source ∙ c.iter.ensures.rest
+    ∙ take_all (length c.args.stripe.now - 2) (drop 2 c.args.stripe.now) (omega arith) in
+    let n : length c.into_iter-column-iterator.result.iter.rest.now ≡ length c.args.stripe.now - 2 = ap length e ∙ l in
+    record {
+      long = (refl, refl);
+      way = way_none c.args.stripe.now _ _ _ (omega arith) e refl refl;
+      steps = let z : 64 * (g.D.Raising.STEPS + 2) * length c.into_iter-column-iterator.result.iter.rest.now ≡ 64 * (g.D.Raising.STEPS + 2) * (length c.args.stripe.now - 2) = ap (λ (m : ℕ). 64 * (g.D.Raising.STEPS + 2) * m) n in omega arith;
+    }
+
+pub overflow_add-steps : goal.overflow_add-steps
+overflow_add-steps g c = let l = counted g.D.Raising.STEPS (length c.args.stripe.now) c.loop-column.steps (length c.loop-column.column-iterator.iter.rest.now) g.met.D.Raising.few (omega arith) c.loop-column.invariant.steps in omega arith
+
+pub overflow_add-steps-in-loop-column : goal.overflow_add-steps-in-loop-column
+overflow_add-steps-in-loop-column g c =
+    let h = g.met.D.Raising.few in
+    let l = counted g.D.Raising.STEPS (length c.args.stripe.now) c.loop-column.steps (length c.loop-column.column-iterator.iter.rest.now) g.met.D.Raising.few (omega arith) c.loop-column.invariant.steps in omega (arith, h)
+
+pub loop-column-preserved : goal.loop-column-preserved
+loop-column-preserved g c =
+    let e : c.loop-column.column-iterator.iter.rest.now ≡ c.next.new.self.iter.rest.now ++ c.in-Some.column.now ∷ [] = c.in-Some.ensures.steps in
+    let l : length c.loop-column.column-iterator.iter.rest.now ≡ length c.next.new.self.iter.rest.now + 1 = ap length e ∙ length-append c.next.new.self.iter.rest.now (c.in-Some.column.now ∷ []) in
+    record {
+      way = way_more c.args.stripe.now _ _ _ _ _ _ _ (omega arith) c.add_to-steps.ensures.good c.loop-column.invariant.way e (not_raised _ _ _ c.add_to-steps.ensures.value) (raised_by g.D.Raising.raise double8 g.met.D.Doubling.doubles _ _ _ c.add_to-steps-in-loop-column.ensures.value);
+      long = (c.add_to-steps.array_long, c.add_to-steps-in-loop-column.array_long);
+      steps = stepped g.D.Raising.STEPS _ _ c.loop-column.steps _ _ _ l c.add_to-steps.ensures.steps c.add_to-steps-in-loop-column.ensures.steps c.loop-column.invariant.steps;
+    }
 
 pub returns : goal.returns
-returns c =
-    let e : c.loop-i.i ≡ 2 = omega arith in
-    let h : (n : ℕ) → get_or c.args.stripe.now n 0 < 2 ^ 64
-    = λ n. let t : Fits w64 (get_or c.args.stripe.now n 0) = c.type_inv.stripe n in omega arith in
-    let g : Gathered c.args.k 2 c.args.stripe.now c.loop-i.p c.loop-i.q
-    = subst (λ (i : ℕ). Gathered c.args.k i c.args.stripe.now c.loop-i.p c.loop-i.q) e c.loop-i.invariant.1 in
+returns g c =
+    let e : length c.loop-column.column-iterator.iter.rest.now ≡ 0 = c.in-None.ensures.steps.0 in
+    let w = c.loop-column.invariant.way in
+    let h : (j : ℕ) → Good (held c.args.stripe.now (2 + j)) = λ j. w.good (2 + j) (omega arith) in
+    let m : 2 + length c.loop-column.column-iterator.iter.rest.now ≡ 2 = omega arith in
+    let s : Gathered (length c.args.stripe.now) 2 (held c.args.stripe.now) c.loop-column.p c.loop-column.q
+    = subst (λ (i : ℕ). Gathered (length c.args.stripe.now) i (held c.args.stripe.now) c.loop-column.p c.loop-column.q) m w.so_far in
     record {
-      is_p = gathered_p c.args.k c.args.stripe.now h c.loop-i.p c.loop-i.q g (omega arith);
-      is_q = gathered_q c.args.k c.args.stripe.now h c.loop-i.p c.loop-i.q g (omega arith);
-      steps = omega arith;
+      is_p = gathered_p (length c.args.stripe.now) (held c.args.stripe.now) h c.loop-column.p c.loop-column.q s c.loop-column.invariant.long.0;
+      is_q = gathered_q (length c.args.stripe.now) (held c.args.stripe.now) h c.loop-column.p c.loop-column.q s c.loop-column.invariant.long.1;
+      good = h;
+      steps = let z : 64 * (g.D.Raising.STEPS + 2) * length c.loop-column.column-iterator.iter.rest.now ≡ 64 * (g.D.Raising.STEPS + 2) * 0 = ap (λ (n : ℕ). 64 * (g.D.Raising.STEPS + 2) * n) e in omega arith;
     }

@@ -1,6 +1,10 @@
-use Rattle.std.proofs.Common.{◌≡◌, ◌-◌, ◌*◌, ◌≤◌}
-use Rattle.field.proofs.Gathering.{Gathered}
+use Rattle.std.proofs.Common.{◌≡◌, ◌+◌, ◌-◌, ◌*◌, length}
+use Rattle.field.proofs.Gathering.{OnTheWay}
 use Rattle.field.proofs.stripe.parity.Given as goal
 
-abbrev pub invariant-loop-i : goal.invariant-loop-i
-invariant-loop-i l = (2 ≤ l.i) × Gathered l.k l.i l.stripe l.p l.q × (l.steps ≡ 192 * (l.k - l.i))
+abbrev pub invariant-loop-column : goal.invariant-loop-column
+invariant-loop-column g l = record {
+  long : (length l.p ≡ 64) × (length l.q ≡ 64);
+  way : OnTheWay l.stripe l.column-iterator.iter.rest.now l.p l.q;
+  steps : l.steps + 64 * (g.D.Raising.STEPS + 2) * length l.column-iterator.iter.rest.now ≡ 64 * (g.D.Raising.STEPS + 2) * (length l.stripe - 2);
+}
