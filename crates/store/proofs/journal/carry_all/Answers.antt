@@ -1,6 +1,5 @@
 use Rattle.std.proofs.Common.{◌≡◌, ℕ, ◌<◌, length, sym, subst, arith}
 use Rattle.std.proofs.lemmas.Result.{MatchResult-from_err}
-use Rattle.layout.specs.Members.{listed}
 use Rattle.store.specs.Durable.{Employed}
 use Rattle.store.proofs.Laws.{went_longer}
 use Rattle.store.proofs.Carried.{moving_none, moving_more, moving_went, moving_is}
@@ -12,7 +11,7 @@ loop-p-init g c = moving_none _ _ _ _ _
 pub carry-requires : goal.carry-requires
 carry-requires g c =
     let w = c.loop-p.invariant.went in
-    let l : c.loop-p.p < length (listed c.args.members.now.count c.args.members.now.disks) = omega (arith, c.many-p-end.ensures.is.0) in
+    let l : c.loop-p.p < length c.args.members.now.list = omega (arith, c.many-p-end.ensures.is.0) in
     record {
       left = omega (arith, w.spent, c.requires.left, c.many-p-end.ensures.is.1.1);
       place = (omega (arith, w.deaths.size, c.requires.place.0), omega (arith, w.deaths.size, c.requires.place.1.0));
@@ -32,5 +31,5 @@ loop-p-preserved g c = moving_more c.requires.place.1.1 c.loop-p.invariant c.at-
 
 pub returns : goal.returns
 returns g c =
-    let e : c.loop-p.p ≡ length (listed c.args.members.now.count c.args.members.now.disks) = omega (arith, c.many-p-end.ensures.is.0) in
+    let e : c.loop-p.p ≡ length c.args.members.now.list = omega (arith, c.many-p-end.ensures.is.0) in
     record { went = went_longer (omega (arith, c.many-p-end.ensures.is.1.1)) c.loop-p.invariant.went; how = moving_is e c.loop-p.invariant }
