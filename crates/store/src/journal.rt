@@ -47,8 +47,7 @@ fn carry_all<D: Disks>(
     ensures went { Went 24 (Level to) (D.shelf d.old) (D.seen d.old) (D.shelf d.new) (D.seen d.new) }
     ensures how { MatchResult result (λ _. Moving (length members.now.list) members.now.list from to (D.shelf d.old) (D.seen d.old) (D.shelf d.new) (D.seen d.new)) (λ _. (D.shelf d.new).on ≡ false) }
 {
-    for p in 0..members.many() {
-        let at = members.at(p);
+    for &at in members.disks() {
         carry(d, at, from, to, words)?;
     }
     Ok(())
