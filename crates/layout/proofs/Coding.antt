@@ -1,7 +1,7 @@
 -- A superblock's words say what was written, and members are written and read one by one.
 -- Assumes nothing.
-use Rattle.std.proofs.Common.{◌≡◌, ℕ, suc, ◌+◌, ◌-◌, ◌<◌, ◌≤◌, true, false, cond, eqb, List, [], ◌∷◌, ◌++◌, length, get_or, take, drop, set, replicate, Some, None, Option, sym, refl, ap, ◌∙◌, subst, append_assoc, arith}
-use Rattle.std.proofs.lemmas.List.{take_at, drop_at, set_at, take_all, drop_more, take_more, take-append-drop, length-take, length-drop, length-take-le, length-append, drop-drop, drop-replicate}
+use Rattle.std.proofs.Common.{◌≡◌, ℕ, suc, ◌+◌, ◌-◌, ◌<◌, ◌≤◌, true, false, cond, eqb, List, [], ◌∷◌, ◌++◌, length, get_or, take, drop, replicate, Some, None, Option, sym, refl, ap, ◌∙◌, subst, arith}
+use Rattle.std.proofs.lemmas.List.{take_at, drop_at, length-take, length-drop, length-append, drop-drop, drop-replicate}
 use Rattle.std.proofs.lemmas.Bool.{eq-eqb, ne_eqb}
 use Rattle.layout.specs.declared.superblock.Rebuild.{Rebuild}
 use Rattle.layout.specs.Members.{Roster}
@@ -26,31 +26,6 @@ pub read_again : (S : Super) → super_of (words_of S) ≡ S
 read_again S = again_parts S.generation S.members S.rebuild S.journal
 
 -- ---- writing and reading members
-
--- the list a with its words from 8 on replaced by the first p of the members, the rest as it was
-abbrev pub laid : ℕ → List ℕ → List ℕ → List ℕ
-laid p ms w = take 8 w ++ (take p ms ++ drop (8 + p) w)
-
-pub laid_none : (ms w : List ℕ) → laid 0 ms w ≡ w
-laid_none ms w = take-append-drop 8 w
-
-pub laid_more : (p : ℕ) (ms w : List ℕ) → p < length ms → 8 + p < length w → set (laid p ms w) (8 + p) (get_or ms p 0) ≡ laid (p + 1) ms w
-laid_more p ms w l k =
-    let eight : length (take 8 w) ≡ 8 = length-take-le 8 w (omega arith) in
-    let front : length (take 8 w ++ take p ms) ≡ 8 + p = length-append (take 8 w) (take p ms) ∙ (ap (λ (n : ℕ). n + length (take p ms)) eight ∙ ap (λ (n : ℕ). 8 + n) (length-take-le p ms (omega arith))) in
-    let rest = drop_more w (8 + p) 0 k in
-    let same : 8 + p + 1 ≡ 8 + (p + 1) = omega arith in
-    ap (λ (xs : List ℕ). set (take 8 w ++ (take p ms ++ xs)) (8 + p) (get_or ms p 0)) rest ∙
-    (ap (λ (xs : List ℕ). set xs (8 + p) (get_or ms p 0)) (sym (append_assoc (take 8 w) (take p ms) (get_or w (8 + p) 0 ∷ drop (8 + p + 1) w))) ∙
-    (set_at (take 8 w ++ take p ms) (get_or w (8 + p) 0) (drop (8 + p + 1) w) (get_or ms p 0) (8 + p) front ∙
-    (append_assoc (take 8 w) (take p ms) (get_or ms p 0 ∷ drop (8 + p + 1) w) ∙
-    ap (λ (xs : List ℕ). take 8 w ++ xs)
-    (sym (append_assoc (take p ms) (get_or ms p 0 ∷ []) (drop (8 + p + 1) w)) ∙
-    (ap (λ (xs : List ℕ). xs ++ drop (8 + p + 1) w) (sym (take_more ms p 0 l)) ∙ ap (λ (n : ℕ). take (p + 1) ms ++ drop n w) same)))))
-
-pub laid_all : (p : ℕ) (ms w : List ℕ) → p ≡ length ms → laid p ms w ≡ take 8 w ++ (ms ++ drop (8 + length ms) w)
-laid_all p ms w e =
-    ap (λ (n : ℕ). laid n ms w) e ∙ ap (λ (xs : List ℕ). take 8 w ++ (xs ++ drop (8 + length ms) w)) (take_all (length ms) ms (omega arith))
 
 -- a sector of noughts behind its heading
 pub padded : (k : ℕ) (h : List ℕ) → length h ≡ 8 → drop (8 + k) (h ++ replicate 56 0) ≡ replicate (56 - k) 0

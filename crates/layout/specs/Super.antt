@@ -3,7 +3,7 @@
 use Rattle.std.specs.Prelude.{◌≡◌, ℕ, ◌+◌, ◌-◌, ◌^◌, ◌<◌, ◌≤◌, cond, List, [], ◌∷◌, ◌++◌, length, take, drop, replicate, Some, None, Option, ◌==◌, slice_index}
 use Rattle.layout.specs.declared.superblock.Rebuild.{Rebuild}
 use Rattle.layout.specs.declared.superblock.Superblock.{Superblock}
-use Rattle.layout.specs.Members.{listed, Roster, Absent}
+use Rattle.layout.specs.Members.{Roster, Absent}
 
 -- What a superblock says: its number, the members in their places, the disk that is being filled, and the stripe that lies in the journal.
 pub record Super : Type 0 where
@@ -18,7 +18,7 @@ blank = record { generation = 0; members = 0 ∷ 1 ∷ 2 ∷ 3 ∷ []; rebuild =
 
 -- what a superblock in memory says
 abbrev pub says : Superblock → Super
-says b = record { generation = b.generation; members = listed b.members.count b.members.disks; rebuild = b.rebuild; journal = b.journal }
+says b = record { generation = b.generation; members = b.members.list; rebuild = b.rebuild; journal = b.journal }
 
 -- the first word of a sector that is a superblock: "nultsjef" in ASCII
 abbrev pub mark : ℕ

@@ -3,7 +3,7 @@ ghost use Rattle.std.specs.Prelude.{◌≡◌, ℕ, ◌+◌, ◌*◌, ◌<◌, �
 ghost use Rattle.layout.specs.Places.{place, index, column_of, stripe_of, PlacesTurn, OneHome};
 
 // Where a sector of the store is: a data column, from 0, of a stripe.
-#[derive(Clone, Copy)]
+#[derive(Clone, Copy, PartialEq, Eq, Debug)]
 pub struct Location {
     pub column: usize,
     pub stripe: u64,

@@ -1,13 +1,13 @@
 // The superblock as a value, and as the 64 words of a sector. It touches only the words that are lent.
 ghost use Rattle.std.specs.Prelude.{◌≡◌, ℕ, ◌+◌, ◌<◌, ◌≤◌, List, [], ◌∷◌, ◌++◌, length, take, drop, replicate, ◌≢◌, slice_index};
-ghost use Rattle.layout.specs.Members.{listed, Roster};
+ghost use Rattle.layout.specs.Members.{Roster};
 ghost use Rattle.layout.specs.Super.{Super, blank, says, super_of, rebuild_of, journal_of, heading, words_of, rebuild_words, journal_word, Numbered, Proper, ReadAgain};
 ghost use Rattle.layout.specs.declared.members.Marks.TheVariants.{Nobody};
 
 use crate::members::Members;
 
 // A disk that is being filled for a place: it has the stripes below `done`.
-#[derive(Clone, Copy)]
+#[derive(Clone, Copy, PartialEq, Eq, Debug)]
 pub struct Rebuild {
     pub place: usize,
     pub disk: u32,
@@ -15,7 +15,7 @@ pub struct Rebuild {
 }
 
 // Who the members are, which disk is being filled, and which stripe lies in the journal. The generation grows with each commit.
-#[derive(Clone, Copy)]
+#[derive(Clone, Copy, PartialEq, Eq, Debug)]
 pub struct Superblock {
     pub generation: u64,
     pub members: Members,
@@ -41,23 +41,13 @@ pub fn generation_of(words: &[u64]) -> u64
     if words[0] == MARK { words[1] } else { 0 }
 }
 
-// Noughts throughout.
-fn clear(words: &mut [u64])
-    requires { length words.old ≡ 64 }
-    ensures { words.new ≡ replicate 64 0 }
-{
-    for w in words.iter_mut() {
-        *w = 0;
-    }
-}
-
 // The members at word 8 and on; all other words stay.
 fn write_members(members: &Members, words: &mut [u64])
     requires { length words.old ≡ 64 }
-    ensures { words.new ≡ take 8 words.old ++ (listed members.now.count members.now.disks ++ drop (8 + length (listed members.now.count members.now.disks)) words.old) }
+    ensures { words.new ≡ take 8 words.old ++ (members.now.list ++ drop (8 + length members.now.list) words.old) }
 {
-    for p in 0..members.many() {
-        words[8 + p] = members.at(p) as u64;
+    for (p, &disk) in members.disks().iter().enumerate() {
+        words[8 + p] = u64::from(disk);
     }
 }
 
@@ -66,8 +56,8 @@ fn rebuild_words(rebuild: Option<Rebuild>) -> [u64; 4]
     ensures { result ≡ rebuild_words rebuild }
 {
     match rebuild {
-        None => [0, 0, 0, 0],
-        Some(r) => [1, r.place as u64, r.disk as u64, r.done],
+        None => [0; 4],
+        Some(r) => [1, r.place as u64, u64::from(r.disk), r.done],
     }
 }
 
@@ -76,10 +66,7 @@ fn journal_word(journal: Option<u64>) -> u64
     requires { Numbered journal }
     ensures { result ≡ journal_word journal }
 {
-    match journal {
-        None => 0,
-        Some(r) => r + 1,
-    }
+    journal.map_or(0, |r| r + 1)
 }
 
 impl Superblock {
@@ -101,15 +88,17 @@ impl Superblock {
         requires numbered { Numbered self.now.journal }
         ensures { words.new ≡ heading (says self.now) ++ replicate 56 0 }
     {
-        let rebuild = rebuild_words(self.rebuild);
-        words[0] = MARK;
-        words[1] = self.generation;
-        words[2] = self.members.many() as u64;
-        words[3] = rebuild[0];
-        words[4] = rebuild[1];
-        words[5] = rebuild[2];
-        words[6] = rebuild[3];
-        words[7] = journal_word(self.journal);
+        let [kept, place, disk, done] = rebuild_words(self.rebuild);
+        words[..8].copy_from_slice(&[
+            MARK,
+            self.generation,
+            self.members.many() as u64,
+            kept,
+            place,
+            disk,
+            done,
+            journal_word(self.journal),
+        ]);
     }
 
     // The words that say it.
@@ -118,7 +107,7 @@ impl Superblock {
         requires numbered { Numbered self.now.journal }
         ensures { words.new ≡ words_of (says self.now) }
     {
-        clear(words);
+        words.fill(0);
         self.write_heading(words);
         write_members(&self.members, words);
     }
@@ -148,10 +137,7 @@ fn rebuild_from(words: &[u64]) -> Option<Rebuild>
     requires small { (slice_index words.now 3 ≢ 0) → slice_index words.now 5 < 16 }
     ensures { result ≡ rebuild_of words.now }
 {
-    if words[3] == 0 {
-        return None;
-    }
-    Some(Rebuild {
+    (words[3] != 0).then(|| Rebuild {
         place: words[4] as usize,
         disk: words[5] as u32,
         done: words[6],
@@ -163,9 +149,5 @@ fn journal_from(words: &[u64]) -> Option<u64>
     requires { length words.now ≡ 64 }
     ensures { result ≡ journal_of words.now }
 {
-    if words[7] == 0 {
-        None
-    } else {
-        Some(words[7] - 1)
-    }
+    words[7].checked_sub(1)
 }

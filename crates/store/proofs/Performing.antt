@@ -6,7 +6,6 @@ use borrow.Rule.Slice.PartMut.{put_mid}
 use Rattle.std.proofs.lemmas.Slice.{between_is, take-put_mid_below}
 use Rattle.std.proofs.lemmas.Bool.{cases_eq, eq-eqb, ne_eqb, cond-true, cond-false}
 use Rattle.field.specs.Stripe.{column}
-use Rattle.layout.specs.Members.{listed}
 use Rattle.layout.specs.Super.{Super, says}
 use Rattle.layout.specs.Places.{stripe_of}
 use Rattle.layout.specs.declared.superblock.Superblock.{Superblock}
@@ -71,7 +70,7 @@ module _ {s : Store} {room : List ℕ} {x y : Shelf} {es fs : List Event} (v : S
       record { off = off; S = S; c = v.c; h = since; S' = S; c' = v.c; h' = since; torn = sound_twice y S v.c k; one = explains_later explained; two = explains_later explained }
 
   pub performed_read : (b : Superblock) (t i : ℕ) → t < 8 → (into w : List ℕ) (m : ℕ → ℕ) (g : ℕ) → v.h.way t ≡ Under (Read i) w m g → y.on ≡ true → Ready y S v.c → says b ≡ S →
-      MarksTrue y (listed b.members.count b.members.disks) b.members.dead → into ≡ sector_of x.sectors i v.c → Performed (Read i) Bytes t into (under s b) v.h y fs
+      MarksTrue y b.members.list b.members.dead → into ≡ sector_of x.sectors i v.c → Performed (Read i) Bytes t into (under s b) v.h y fs
   unfolding core
   performed_read b t i l into w m g way lit ready same marks got =
       let seen = v.h.content i (v.h.count i) in
@@ -133,7 +132,7 @@ module _ {s : Store} {room : List ℕ} {x y : Shelf} {es fs : List Event} (v : S
       }
 
   module _ (t i : ℕ) (l : t < 8) (words w : List ℕ) (m : ℕ → ℕ) (g : ℕ) (way : v.h.way t ≡ Under (Write i) w m g) where
-    pub performed_write : (b : Superblock) → says b ≡ journalling S (stripe_of (y.sectors - 64) i) → MarksTrue y (listed b.members.count b.members.disks) b.members.dead → Saved y.sectors i w S x y →
+    pub performed_write : (b : Superblock) → says b ≡ journalling S (stripe_of (y.sectors - 64) i) → MarksTrue y b.members.list b.members.dead → Saved y.sectors i w S x y →
         Performed (Write i) Done t words (under s b) v.h y fs
     unfolding starts_with core
     performed_write b same marks saved =
@@ -231,14 +230,14 @@ reaches_of o a w n (Over b r u g) p e = absurd e
 
 module _ {s : Store} {room : List ℕ} {x : Shelf} {es : List Event} (v : Serving s room x es) where
   -- how many sectors there are
-  pub size_is : size_of x.sectors v.h ≡ (length (listed s.superblock.members.count s.superblock.members.disks) - 2) * (s.sectors - 64)
-  size_is = ap (λ (ds : List ℕ). (length ds - 2) * (x.sectors - 64)) v.stands.explains.matches.disks ∙ ap (λ (n : ℕ). (length (listed s.superblock.members.count s.superblock.members.disks) - 2) * (n - 64)) (sym v.stands.same)
+  pub size_is : size_of x.sectors v.h ≡ (length s.superblock.members.list - 2) * (s.sectors - 64)
+  size_is = ap (λ (ds : List ℕ). (length ds - 2) * (x.sectors - 64)) v.stands.explains.matches.disks ∙ ap (λ (n : ℕ). (length s.superblock.members.list - 2) * (n - 64)) (sym v.stands.same)
 
   module _ (t : ℕ) (l : t < 8) (a : Ask) (e : at s.tags.asked t ≡ Some a) where
     pub asks_for : Asks a (column t room) (size_of x.sectors v.h) (v.h.way t)
     asks_for = asks_of _ a _ _ (v.h.way t) e (v.table.entries t l)
 
-    pub within : Reaches a ((length (listed s.superblock.members.count s.superblock.members.disks) - 2) * (s.sectors - 64))
+    pub within : Reaches a ((length s.superblock.members.list - 2) * (s.sectors - 64))
     within = subst (λ (n : ℕ). Reaches a n) size_is (reaches_of _ a _ _ (v.h.way t) e (v.table.entries t l))
 
 -- the words of the tags lie below 512, and what is behind them does not touch them

@@ -2,7 +2,6 @@
 -- Assumes nothing.
 use Rattle.std.specs.Prelude.{◌≡◌, ℕ, zero, suc, ◌+◌, ◌*◌, ◌%◌, ◌<◌, ◌≤◌, true, false, T, List, [], ◌∷◌, length, Some, None, Ok, Err, Option, Result, ◌≢◌}
 use Rattle.field.specs.Stripe.{column}
-use Rattle.layout.specs.Members.{listed}
 use Rattle.layout.specs.Super.{Super, says}
 use Rattle.store.specs.Event.{Event, Died, Asked, Refused, Told, Turned, Cut}
 use Rattle.store.specs.Shelf.{Shelf, takes_in, told_of}
@@ -74,7 +73,7 @@ pub record Recoverable (x : Shelf) (es : List Event) : Type 0 where
 pub record Standing (s : Store) (x : Shelf) (k : ℕ) (es : List Event) (c : Columns) (h : Seen) : Type 0 where
   pub lit : x.on ≡ true
   pub ready : Ready x (says s.superblock) c
-  pub marks : MarksTrue x (listed s.superblock.members.count s.superblock.members.disks) s.superblock.members.dead
+  pub marks : MarksTrue x s.superblock.members.list s.superblock.members.dead
   pub same : s.sectors ≡ x.sectors
   pub explains : Explains x.sectors k es (says s.superblock) c h
 

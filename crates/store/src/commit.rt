@@ -19,8 +19,7 @@ fn write_copies<D: Disks>(d: &mut D, next: &Superblock, words: &[u64]) -> Result
     ensures went { Went 3 (Heading (says next.now)) (D.shelf d.old) (D.seen d.old) (D.shelf d.new) (D.seen d.new) }
     ensures how { MatchResult result (λ _. Copying 3 (says next.now) words.now (D.shelf d.old) (D.seen d.old) (D.shelf d.new) (D.seen d.new)) (λ _. (D.shelf d.new).on ≡ false) }
 {
-    for p in 0..3 {
-        let at = next.members.at(p);
+    for &at in &next.members.disks()[..3] {
         let _ = write_sector(d, at, 0, words)?;
     }
     Ok(())

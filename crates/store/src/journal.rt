@@ -1,7 +1,6 @@
 // The journal: two slots at the beginning of each disk, which generations use in turn. A stripe that lies there is brought to its
 // place from each disk's own slot. It reads the slot and writes the stripe's place, and nothing else.
 ghost use Rattle.std.specs.Prelude.{◌≡◌, ℕ, ◌+◌, ◌<◌, ◌≤◌, true, false, length, MatchResult, ◌≢◌, slice_index};
-ghost use Rattle.layout.specs.Members.{listed};
 ghost use Rattle.layout.specs.Super.{says, Proper};
 ghost use Rattle.store.specs.Durable.{Went, Employed};
 ghost use Rattle.store.specs.Keeping.{slot, Holds, Inside};
@@ -43,13 +42,12 @@ fn carry_all<D: Disks>(
 ) -> Result<(), Gone>
     requires left { 24 ≤ (D.shelf d.old).left }
     requires place { (from < (D.shelf d.old).sectors) × ((to < (D.shelf d.old).sectors) × ((from ≢ to))) }
-    requires employed { (p : ℕ) → p < length (listed members.now.count members.now.disks) → Employed (D.shelf d.old) (slice_index (listed members.now.count members.now.disks) p) }
+    requires employed { (p : ℕ) → p < length members.now.list → Employed (D.shelf d.old) (slice_index members.now.list p) }
     requires lent { length words.old ≡ 64 }
     ensures went { Went 24 (Level to) (D.shelf d.old) (D.seen d.old) (D.shelf d.new) (D.seen d.new) }
-    ensures how { MatchResult result (λ _. Moving (length (listed members.now.count members.now.disks)) (listed members.now.count members.now.disks) from to (D.shelf d.old) (D.seen d.old) (D.shelf d.new) (D.seen d.new)) (λ _. (D.shelf d.new).on ≡ false) }
+    ensures how { MatchResult result (λ _. Moving (length members.now.list) members.now.list from to (D.shelf d.old) (D.seen d.old) (D.shelf d.new) (D.seen d.new)) (λ _. (D.shelf d.new).on ≡ false) }
 {
-    for p in 0..members.many() {
-        let at = members.at(p);
+    for &at in members.disks() {
         carry(d, at, from, to, words)?;
     }
     Ok(())

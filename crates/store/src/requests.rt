@@ -1,7 +1,6 @@
 // What is asked of the store: why it is turned away, and how it is done. Reads and writes go to the disks through `sectors`.
 ghost use Rattle.std.specs.Prelude.{◌≡◌, ℕ, ◌+◌, ◌-◌, ◌*◌, ◌^◌, ◌<◌, ◌≤◌, Bool, true, false, List, length, if◌then◌else◌, Some, MatchResult, nat_lt};
 ghost use Rattle.field.specs.Stripe.{column};
-ghost use Rattle.layout.specs.Members.{listed};
 ghost use Rattle.store.specs.Durable.{Deaths};
 ghost use Rattle.store.specs.Tags.{at, refusal_of};
 ghost use Rattle.store.specs.Between.{ticks, Serving, Performed, Lost};
@@ -13,7 +12,7 @@ impl Store {
     // How many sectors the store has.
     pub fn size(&self) -> u64
         requires { (64 ≤ self.now.sectors) × (self.now.sectors ≤ 4294967296) }
-        ensures { result ≡ (length (listed self.now.superblock.members.count self.now.superblock.members.disks) - 2) * (self.now.sectors - 64) }
+        ensures { result ≡ (length self.now.superblock.members.list - 2) * (self.now.sectors - 64) }
     {
         let data = self.superblock.members.many() - 2;
         data as u64 * (self.sectors - 64)
@@ -22,7 +21,7 @@ impl Store {
     // Why it is turned away, or 0: the tag first, then what isn't built, then the sector's number.
     pub fn refusal(&self, tag: u32, a: Ask) -> u32
         requires { (64 ≤ self.now.sectors) × (self.now.sectors ≤ 4294967296) }
-        ensures { result ≡ refusal_of self.now.tags.asked ((length (listed self.now.superblock.members.count self.now.superblock.members.disks) - 2) * (self.now.sectors - 64)) tag a }
+        ensures { result ≡ refusal_of self.now.tags.asked ((length self.now.superblock.members.list - 2) * (self.now.sectors - 64)) tag a }
     {
         if tag >= 8 {
             return 1;
@@ -43,7 +42,7 @@ impl Store {
     // 3 if there is no sector s.
     fn beyond(&self, s: u64) -> u32
         requires { (64 ≤ self.now.sectors) × (self.now.sectors ≤ 4294967296) }
-        ensures { result ≡ (if nat_lt s ((length (listed self.now.superblock.members.count self.now.superblock.members.disks) - 2) * (self.now.sectors - 64)) then 0 else 3) }
+        ensures { result ≡ (if nat_lt s ((length self.now.superblock.members.list - 2) * (self.now.sectors - 64)) then 0 else 3) }
     {
         if s < self.size() { 0 } else { 3 }
     }

@@ -1,7 +1,6 @@
 // A sector of the store, from the disks and to them, under the superblock that is in force. What is read leaves all as it was; what
 // is written goes through the journal and lasts when this is done.
 ghost use Rattle.std.specs.Prelude.{◌≡◌, ℕ, ◌+◌, ◌-◌, ◌*◌, ◌^◌, ◌<◌, ◌≤◌, Bool, true, false, length, MatchResult};
-ghost use Rattle.layout.specs.Members.{listed};
 ghost use Rattle.layout.specs.Places.{stripe_of};
 ghost use Rattle.layout.specs.Super.{says};
 ghost use Rattle.store.specs.Durable.{Went, Deaths, Nowhere};
@@ -24,13 +23,13 @@ pub fn read<D: Disks>(
     into: &mut [u64],
     columns: &mut [u64],
 ) -> Result<(), Gone>
-    requires left { 1 + length (listed b.old.members.count b.old.members.disks) ≤ (D.shelf d.old).left }
-    requires size { (n ≡ (D.shelf d.old).sectors) × (s < (length (listed b.old.members.count b.old.members.disks) - 2) * (n - 64)) }
+    requires left { 1 + length b.old.members.list ≤ (D.shelf d.old).left }
+    requires size { (n ≡ (D.shelf d.old).sectors) × (s < (length b.old.members.list - 2) * (n - 64)) }
     requires ready { (c : Columns) × Ready (D.shelf d.old) (says b.old) c }
-    requires marks { MarksTrue (D.shelf d.old) (listed b.old.members.count b.old.members.disks) b.old.members.dead }
-    requires lent { (length columns.old ≡ 64 * length (listed b.old.members.count b.old.members.disks)) × (length into.old ≡ 64) }
-    ensures went { Went (1 + length (listed b.old.members.count b.old.members.disks)) Nowhere (D.shelf d.old) (D.seen d.old) (D.shelf d.new) (D.seen d.new) }
-    ensures same { (says b.new ≡ says b.old) × (MarksTrue (D.shelf d.new) (listed b.new.members.count b.new.members.disks) b.new.members.dead) }
+    requires marks { MarksTrue (D.shelf d.old) b.old.members.list b.old.members.dead }
+    requires lent { (length columns.old ≡ 64 * length b.old.members.list) × (length into.old ≡ 64) }
+    ensures went { Went (1 + length b.old.members.list) Nowhere (D.shelf d.old) (D.seen d.old) (D.shelf d.new) (D.seen d.new) }
+    ensures same { (says b.new ≡ says b.old) × (MarksTrue (D.shelf d.new) b.new.members.list b.new.members.dead) }
     ensures how { MatchResult result (λ _. Fetched n s into.new (says b.old) (D.shelf d.old) (D.shelf d.new)) (λ _. (D.shelf d.new).on ≡ false) }
 {
     let at = locate(s, n - 64);
@@ -49,15 +48,15 @@ pub fn write<D: Disks>(
     words: &[u64],
     columns: &mut [u64],
 ) -> Result<(), Gone>
-    requires left { 2 * length (listed b.old.members.count b.old.members.disks) + 2 * extra b.old.rebuild + 8 ≤ (D.shelf d.old).left }
-    requires size { (n ≡ (D.shelf d.old).sectors) × (s < (length (listed b.old.members.count b.old.members.disks) - 2) * (n - 64)) }
-    requires ready { (c : Columns) × (Ready (D.shelf d.old) (says b.old) c × Coded (length (listed b.old.members.count b.old.members.disks)) c) }
-    requires marks { MarksTrue (D.shelf d.old) (listed b.old.members.count b.old.members.disks) b.old.members.dead }
+    requires left { 2 * length b.old.members.list + 2 * extra b.old.rebuild + 8 ≤ (D.shelf d.old).left }
+    requires size { (n ≡ (D.shelf d.old).sectors) × (s < (length b.old.members.list - 2) * (n - 64)) }
+    requires ready { (c : Columns) × (Ready (D.shelf d.old) (says b.old) c × Coded (length b.old.members.list) c) }
+    requires marks { MarksTrue (D.shelf d.old) b.old.members.list b.old.members.dead }
     requires few { b.old.generation + 1 < 2 ^ 64 }
-    requires lent { (length columns.old ≡ 64 * length (listed b.old.members.count b.old.members.disks)) × (length words.now ≡ 64) }
+    requires lent { (length columns.old ≡ 64 * length b.old.members.list) × (length words.now ≡ 64) }
     ensures deaths { Deaths (D.shelf d.old) (D.seen d.old) (D.shelf d.new) (D.seen d.new) }
-    ensures spent { (D.shelf d.old).left ≤ (D.shelf d.new).left + (2 * length (listed b.old.members.count b.old.members.disks) + 2 * extra b.old.rebuild + 8) }
-    ensures how { MatchResult result (λ _. (says b.new ≡ journalling (says b.old) (stripe_of (n - 64) s)) × MarksTrue (D.shelf d.new) (listed b.new.members.count b.new.members.disks) b.new.members.dead × Saved n s words.now (says b.old) (D.shelf d.old) (D.shelf d.new)) (λ _. Unsaved n s words.now (says b.old) (D.shelf d.old) (D.shelf d.new)) }
+    ensures spent { (D.shelf d.old).left ≤ (D.shelf d.new).left + (2 * length b.old.members.list + 2 * extra b.old.rebuild + 8) }
+    ensures how { MatchResult result (λ _. (says b.new ≡ journalling (says b.old) (stripe_of (n - 64) s)) × MarksTrue (D.shelf d.new) b.new.members.list b.new.members.dead × Saved n s words.now (says b.old) (D.shelf d.old) (D.shelf d.new)) (λ _. Unsaved n s words.now (says b.old) (D.shelf d.old) (D.shelf d.new)) }
 {
     let at = locate(s, n - 64);
     let r = at.stripe;

@@ -4,7 +4,6 @@
 // It asks the disks of the members that it is given, at the one sector that it is given.
 ghost use Rattle.std.specs.Prelude.{◌≡◌, ℕ, ◌+◌, ◌*◌, ◌<◌, ◌≤◌, Bool, true, false, length, MatchResult, slice_index};
 ghost use Rattle.field.specs.Stripe.{held};
-ghost use Rattle.layout.specs.Members.{listed};
 ghost use Rattle.layout.specs.Super.{says, Proper, Joins};
 ghost use Rattle.store.specs.Shelf.{count};
 ghost use Rattle.store.specs.Durable.{Went, Nowhere, Here, Shows, Employed};
@@ -26,11 +25,11 @@ fn fetch<D: Disks>(
     into: &mut [u64],
 ) -> Result<bool, Gone>
     requires left { 0 < (D.shelf d.old).left }
-    requires place { (p < length (listed members.now.count members.now.disks)) × (s < (D.shelf d.old).sectors) }
-    requires serving { Serving (D.shelf d.old) (listed members.now.count members.now.disks) members.now.dead }
+    requires place { (p < length members.now.list) × (s < (D.shelf d.old).sectors) }
+    requires serving { Serving (D.shelf d.old) members.now.list members.now.dead }
     requires lent { length into.old ≡ 64 }
     ensures went { Went 1 Nowhere (D.shelf d.old) (D.seen d.old) (D.shelf d.new) (D.seen d.new) }
-    ensures how { MatchResult result (λ lives. Answered (slice_index (listed members.now.count members.now.disks) p) s into.new lives (D.shelf d.old) (D.shelf d.new)) (λ _. (D.shelf d.new).on ≡ false) }
+    ensures how { MatchResult result (λ lives. Answered (slice_index members.now.list p) s into.new lives (D.shelf d.old) (D.shelf d.new)) (λ _. (D.shelf d.new).on ≡ false) }
 {
     if members.is_marked(p) {
         return Ok(false);
@@ -47,12 +46,12 @@ pub fn load<D: Disks>(
     r: u64,
     stripe: &mut [u64],
 ) -> Result<Missing, Gone>
-    requires left { length (listed members.now.count members.now.disks) ≤ (D.shelf d.old).left }
+    requires left { length members.now.list ≤ (D.shelf d.old).left }
     requires size { s < (D.shelf d.old).sectors }
-    requires serving { Serving (D.shelf d.old) (listed members.now.count members.now.disks) members.now.dead }
-    requires lent { length stripe.old ≡ 64 * length (listed members.now.count members.now.disks) }
-    ensures went { Went (length (listed members.now.count members.now.disks)) Nowhere (D.shelf d.old) (D.seen d.old) (D.shelf d.new) (D.seen d.new) }
-    ensures how { MatchResult result (λ missing. Loaded missing (listed members.now.count members.now.disks) s r stripe.new (D.shelf d.old) (D.shelf d.new)) (λ _. (D.shelf d.new).on ≡ false) }
+    requires serving { Serving (D.shelf d.old) members.now.list members.now.dead }
+    requires lent { length stripe.old ≡ 64 * length members.now.list }
+    ensures went { Went (length members.now.list) Nowhere (D.shelf d.old) (D.seen d.old) (D.shelf d.new) (D.seen d.new) }
+    ensures how { MatchResult result (λ missing. Loaded missing members.now.list s r stripe.new (D.shelf d.old) (D.shelf d.new)) (λ _. (D.shelf d.new).on ≡ false) }
 {
     let k = members.many();
     let mut missing = Missing::Nothing;
@@ -76,12 +75,12 @@ pub fn read_column<D: Disks>(
     into: &mut [u64],
     stripe: &mut [u64],
 ) -> Result<Missing, Gone>
-    requires left { 1 + length (listed members.now.count members.now.disks) ≤ (D.shelf d.old).left }
-    requires size { (s < (D.shelf d.old).sectors) × (i < length (listed members.now.count members.now.disks)) }
-    requires serving { Serving (D.shelf d.old) (listed members.now.count members.now.disks) members.now.dead }
-    requires lent { (length stripe.old ≡ 64 * length (listed members.now.count members.now.disks)) × (length into.old ≡ 64) }
-    ensures went { Went (1 + length (listed members.now.count members.now.disks)) Nowhere (D.shelf d.old) (D.seen d.old) (D.shelf d.new) (D.seen d.new) }
-    ensures how { MatchResult result (λ missing. Read missing (listed members.now.count members.now.disks) s r i into.new (D.shelf d.old) (D.shelf d.new)) (λ _. (D.shelf d.new).on ≡ false) }
+    requires left { 1 + length members.now.list ≤ (D.shelf d.old).left }
+    requires size { (s < (D.shelf d.old).sectors) × (i < length members.now.list) }
+    requires serving { Serving (D.shelf d.old) members.now.list members.now.dead }
+    requires lent { (length stripe.old ≡ 64 * length members.now.list) × (length into.old ≡ 64) }
+    ensures went { Went (1 + length members.now.list) Nowhere (D.shelf d.old) (D.seen d.old) (D.shelf d.new) (D.seen d.new) }
+    ensures how { MatchResult result (λ missing. Read missing members.now.list s r i into.new (D.shelf d.old) (D.shelf d.new)) (λ _. (D.shelf d.new).on ≡ false) }
 {
     let p = place_of(i, r);
     if fetch(d, members, p, s, into)? {
@@ -94,7 +93,7 @@ pub fn read_column<D: Disks>(
 
 // Members whose columns of stripe r were missing are known to be dead from now on.
 pub fn learn(members: &mut Members, missing: Missing, r: u64)
-    ensures list { listed members.new.count members.new.disks ≡ listed members.old.count members.old.disks }
+    ensures list { members.new.list ≡ members.old.list }
     ensures marks { members.new.dead ≡ learned members.old.dead missing r }
 {
     match missing {
@@ -112,11 +111,11 @@ pub fn learn(members: &mut Members, missing: Missing, r: u64)
 // Words to sector s of the member at place p; one that is known to be dead is not asked.
 fn lay<D: Disks>(d: &mut D, members: &Members, p: usize, s: u64, words: &[u64]) -> Result<(), Gone>
     requires left { 0 < (D.shelf d.old).left }
-    requires place { (p < length (listed members.now.count members.now.disks)) × (s < (D.shelf d.old).sectors) }
-    requires serving { Serving (D.shelf d.old) (listed members.now.count members.now.disks) members.now.dead }
+    requires place { (p < length members.now.list) × (s < (D.shelf d.old).sectors) }
+    requires serving { Serving (D.shelf d.old) members.now.list members.now.dead }
     requires lent { length words.now ≡ 64 }
-    ensures went { Went 1 (Here (slice_index (listed members.now.count members.now.disks) p) s words.now) (D.shelf d.old) (D.seen d.old) (D.shelf d.new) (D.seen d.new) }
-    ensures how { MatchResult result (λ _. ((D.shelf d.old).on ≡ true → (D.shelf d.new).on ≡ true) × Shows (D.shelf d.new) (slice_index (listed members.now.count members.now.disks) p) s words.now) (λ _. (D.shelf d.new).on ≡ false) }
+    ensures went { Went 1 (Here (slice_index members.now.list p) s words.now) (D.shelf d.old) (D.seen d.old) (D.shelf d.new) (D.seen d.new) }
+    ensures how { MatchResult result (λ _. ((D.shelf d.old).on ≡ true → (D.shelf d.new).on ≡ true) × Shows (D.shelf d.new) (slice_index members.now.list p) s words.now) (λ _. (D.shelf d.new).on ≡ false) }
 {
     if !members.is_marked(p) {
         let at = members.at(p);
@@ -134,12 +133,12 @@ pub fn store_members<D: Disks>(
     stripe: &[u64],
     which: &Selection,
 ) -> Result<(), Gone>
-    requires left { count (length (listed members.now.count members.now.disks)) (chosen which.now.columns) ≤ (D.shelf d.old).left }
+    requires left { count (length members.now.list) (chosen which.now.columns) ≤ (D.shelf d.old).left }
     requires size { s < (D.shelf d.old).sectors }
-    requires serving { Serving (D.shelf d.old) (listed members.now.count members.now.disks) members.now.dead }
-    requires lent { length stripe.now ≡ 64 * length (listed members.now.count members.now.disks) }
-    ensures went { Went (count (length (listed members.now.count members.now.disks)) (chosen which.now.columns)) (Spread (chosen which.now.columns) (listed members.now.count members.now.disks) s r (held (length (listed members.now.count members.now.disks)) stripe.now)) (D.shelf d.old) (D.seen d.old) (D.shelf d.new) (D.seen d.new) }
-    ensures how { MatchResult result (λ _. Storing (length (listed members.now.count members.now.disks)) (chosen which.now.columns) (listed members.now.count members.now.disks) s r (held (length (listed members.now.count members.now.disks)) stripe.now) (D.shelf d.old) (D.seen d.old) (D.shelf d.new) (D.seen d.new)) (λ _. (D.shelf d.new).on ≡ false) }
+    requires serving { Serving (D.shelf d.old) members.now.list members.now.dead }
+    requires lent { length stripe.now ≡ 64 * length members.now.list }
+    ensures went { Went (count (length members.now.list) (chosen which.now.columns)) (Spread (chosen which.now.columns) members.now.list s r (held (length members.now.list) stripe.now)) (D.shelf d.old) (D.seen d.old) (D.shelf d.new) (D.seen d.new) }
+    ensures how { MatchResult result (λ _. Storing (length members.now.list) (chosen which.now.columns) members.now.list s r (held (length members.now.list) stripe.now) (D.shelf d.old) (D.seen d.old) (D.shelf d.new) (D.seen d.new)) (λ _. (D.shelf d.new).on ≡ false) }
 {
     for i in 0..members.many() {
         if which.has(i) {
@@ -159,7 +158,7 @@ pub struct Share {
 
 // The share of the disk that is being filled, if it has stripe r already.
 fn share_of(b: &Superblock, r: u64) -> Option<Share>
-    requires { Joins b.now.rebuild (listed b.now.members.count b.now.members.disks) }
+    requires { Joins b.now.rebuild b.now.members.list }
     ensures { FillsWith result b.now.rebuild r }
 {
     match b.rebuild {
@@ -210,14 +209,14 @@ pub fn store<D: Disks>(
     stripe: &[u64],
     which: &Selection,
 ) -> Result<(), Gone>
-    requires left { count (length (listed b.now.members.count b.now.members.disks)) (chosen which.now.columns) + extra b.now.rebuild ≤ (D.shelf d.old).left }
+    requires left { count (length b.now.members.list) (chosen which.now.columns) + extra b.now.rebuild ≤ (D.shelf d.old).left }
     requires size { s < (D.shelf d.old).sectors }
     requires proper { Proper (says b.now) }
-    requires serving { Serving (D.shelf d.old) (listed b.now.members.count b.now.members.disks) b.now.members.dead }
+    requires serving { Serving (D.shelf d.old) b.now.members.list b.now.members.dead }
     requires employed { (e p t : ℕ) → Holds (says b.now) e p t → Employed (D.shelf d.old) e }
-    requires lent { length stripe.now ≡ 64 * length (listed b.now.members.count b.now.members.disks) }
-    ensures went { Went (count (length (listed b.now.members.count b.now.members.disks)) (chosen which.now.columns) + extra b.now.rebuild) (Held (chosen which.now.columns) (says b.now) s r) (D.shelf d.old) (D.seen d.old) (D.shelf d.new) (D.seen d.new) }
-    ensures how { MatchResult result (λ _. ((D.shelf d.old).on ≡ true → (D.shelf d.new).on ≡ true) × Stored (chosen which.now.columns) (says b.now) s r (held (length (listed b.now.members.count b.now.members.disks)) stripe.now) (D.shelf d.new)) (λ _. (D.shelf d.new).on ≡ false) }
+    requires lent { length stripe.now ≡ 64 * length b.now.members.list }
+    ensures went { Went (count (length b.now.members.list) (chosen which.now.columns) + extra b.now.rebuild) (Held (chosen which.now.columns) (says b.now) s r) (D.shelf d.old) (D.seen d.old) (D.shelf d.new) (D.seen d.new) }
+    ensures how { MatchResult result (λ _. ((D.shelf d.old).on ≡ true → (D.shelf d.new).on ≡ true) × Stored (chosen which.now.columns) (says b.now) s r (held (length b.now.members.list) stripe.now) (D.shelf d.new)) (λ _. (D.shelf d.new).on ≡ false) }
 {
     store_members(d, &b.members, s, r, stripe, which)?;
     if let Some(share) = share_of(b, r) {

@@ -4,7 +4,6 @@
 // It asks the disks of the members and of the disk that is being filled, at the stripe's place, in the journal slot and at sector 0.
 ghost use Rattle.std.specs.Prelude.{◌≡◌, ℕ, ◌+◌, ◌*◌, ◌^◌, ◌<◌, ◌≤◌, Bool, true, false, length, replicate, Some, MatchResult, slice_set};
 ghost use Rattle.field.specs.Stripe.{held, Put};
-ghost use Rattle.layout.specs.Members.{listed};
 ghost use Rattle.layout.specs.Super.{says};
 ghost use Rattle.store.specs.Shelf.{count};
 ghost use Rattle.store.specs.Durable.{Deaths, Went, Nowhere};
@@ -28,15 +27,15 @@ fn journal_stripe<D: Disks>(
     stripe: &[u64],
     sector: &mut [u64],
 ) -> Result<(), Gone>
-    requires left { length (listed b.old.members.count b.old.members.disks) + extra b.old.rebuild + 5 ≤ (D.shelf d.old).left }
+    requires left { length b.old.members.list + extra b.old.rebuild + 5 ≤ (D.shelf d.old).left }
     requires place { 64 + r < (D.shelf d.old).sectors }
     requires ready { (c : Columns) × Ready (D.shelf d.old) (says b.old) c }
-    requires marks { MarksTrue (D.shelf d.old) (listed b.old.members.count b.old.members.disks) b.old.members.dead }
+    requires marks { MarksTrue (D.shelf d.old) b.old.members.list b.old.members.dead }
     requires few { b.old.generation + 1 < 2 ^ 64 }
-    requires lent { (length stripe.now ≡ 64 * length (listed b.old.members.count b.old.members.disks)) × (length sector.old ≡ 64) }
+    requires lent { (length stripe.now ≡ 64 * length b.old.members.list) × (length sector.old ≡ 64) }
     ensures deaths { Deaths (D.shelf d.old) (D.seen d.old) (D.shelf d.new) (D.seen d.new) }
-    ensures spent { (D.shelf d.old).left ≤ (D.shelf d.new).left + (length (listed b.old.members.count b.old.members.disks) + extra b.old.rebuild + 5) }
-    ensures how { MatchResult result (λ _. (says b.new ≡ journalling (says b.old) r) × (b.new.members ≡ b.old.members) × Journalled (says b.old) r (held (length (listed b.old.members.count b.old.members.disks)) stripe.now) (D.shelf d.old) (D.shelf d.new)) (λ _. Unjournalled (says b.old) r (held (length (listed b.old.members.count b.old.members.disks)) stripe.now) (D.shelf d.old) (D.shelf d.new)) }
+    ensures spent { (D.shelf d.old).left ≤ (D.shelf d.new).left + (length b.old.members.list + extra b.old.rebuild + 5) }
+    ensures how { MatchResult result (λ _. (says b.new ≡ journalling (says b.old) r) × (b.new.members ≡ b.old.members) × Journalled (says b.old) r (held (length b.old.members.list) stripe.now) (D.shelf d.old) (D.shelf d.new)) (λ _. Unjournalled (says b.old) r (held (length b.old.members.list) stripe.now) (D.shelf d.old) (D.shelf d.new)) }
 {
     let slot = slot_of(b.generation + 1);
     store(d, b, slot, r, stripe, &Selection::all())?;
@@ -53,14 +52,14 @@ fn place_stripe<D: Disks>(
     stripe: &[u64],
     which: &Selection,
 ) -> Result<(), Gone>
-    requires left { count (length (listed b.now.members.count b.now.members.disks)) (chosen which.now.columns) + extra b.now.rebuild ≤ (D.shelf d.old).left }
+    requires left { count (length b.now.members.list) (chosen which.now.columns) + extra b.now.rebuild ≤ (D.shelf d.old).left }
     requires place { (64 + r < (D.shelf d.old).sectors) × (((D.shelf d.old).sectors ≤ 4294967296) × ((says b.now).journal ≡ Some r)) }
     requires sound { (c : Columns) × Sound (D.shelf d.old) (says b.now) c }
-    requires marks { MarksTrue (D.shelf d.old) (listed b.now.members.count b.now.members.disks) b.now.members.dead }
-    requires lent { length stripe.now ≡ 64 * length (listed b.now.members.count b.now.members.disks) }
+    requires marks { MarksTrue (D.shelf d.old) b.now.members.list b.now.members.dead }
+    requires lent { length stripe.now ≡ 64 * length b.now.members.list }
     ensures deaths { Deaths (D.shelf d.old) (D.seen d.old) (D.shelf d.new) (D.seen d.new) }
-    ensures spent { (D.shelf d.old).left ≤ (D.shelf d.new).left + (count (length (listed b.now.members.count b.now.members.disks)) (chosen which.now.columns) + extra b.now.rebuild) }
-    ensures how { MatchResult result (λ _. Placing (chosen which.now.columns) (says b.now) r (held (length (listed b.now.members.count b.now.members.disks)) stripe.now) (D.shelf d.old) (D.shelf d.new)) (λ _. Unplaced (says b.now) (D.shelf d.old) (D.shelf d.new)) }
+    ensures spent { (D.shelf d.old).left ≤ (D.shelf d.new).left + (count (length b.now.members.list) (chosen which.now.columns) + extra b.now.rebuild) }
+    ensures how { MatchResult result (λ _. Placing (chosen which.now.columns) (says b.now) r (held (length b.now.members.list) stripe.now) (D.shelf d.old) (D.shelf d.new)) (λ _. Unplaced (says b.now) (D.shelf d.old) (D.shelf d.new)) }
 {
     store(d, b, 64 + r, r, stripe, which)
 }
@@ -104,13 +103,13 @@ impl<'a, D: Disks> StripeWrite<'a, D> {
 
     // Its columns as they are on the members, into `columns`; says which were missing.
     pub fn load(&mut self, members: &Members, columns: &mut [u64]) -> Result<Missing, Gone>
-        requires left { length (listed members.now.count members.now.disks) ≤ (D.shelf self.old.disks.now).left }
+        requires left { length members.now.list ≤ (D.shelf self.old.disks.now).left }
         requires size { (64 + self.old.stripe < (D.shelf self.old.disks.now).sectors) × ((D.shelf self.old.disks.now).sectors ≤ 4294967296) }
-        requires serving { Serving (D.shelf self.old.disks.now) (listed members.now.count members.now.disks) members.now.dead }
-        requires lent { length columns.old ≡ 64 * length (listed members.now.count members.now.disks) }
+        requires serving { Serving (D.shelf self.old.disks.now) members.now.list members.now.dead }
+        requires lent { length columns.old ≡ 64 * length members.now.list }
         ensures same { (self.new.disks.ghost_name ≡ self.old.disks.ghost_name) × ((self.new.stripe ≡ self.old.stripe) × (self.new.touched ≡ self.old.touched)) }
-        ensures went { Went (length (listed members.now.count members.now.disks)) Nowhere (D.shelf self.old.disks.now) (D.seen self.old.disks.now) (D.shelf self.new.disks.now) (D.seen self.new.disks.now) }
-        ensures how { MatchResult result (λ missing. Loaded missing (listed members.now.count members.now.disks) (64 + self.old.stripe) self.old.stripe columns.new (D.shelf self.old.disks.now) (D.shelf self.new.disks.now)) (λ _. (D.shelf self.new.disks.now).on ≡ false) }
+        ensures went { Went (length members.now.list) Nowhere (D.shelf self.old.disks.now) (D.seen self.old.disks.now) (D.shelf self.new.disks.now) (D.seen self.new.disks.now) }
+        ensures how { MatchResult result (λ missing. Loaded missing members.now.list (64 + self.old.stripe) self.old.stripe columns.new (D.shelf self.old.disks.now) (D.shelf self.new.disks.now)) (λ _. (D.shelf self.new.disks.now).on ≡ false) }
     {
         let r = self.stripe;
         load(self.disks, members, 64 + r, r, columns)
@@ -135,16 +134,16 @@ impl<'a, D: Disks> StripeWrite<'a, D> {
         columns: &[u64],
         sector: &mut [u64],
     ) -> Result<Lasting, Gone>
-        requires left { length (listed b.old.members.count b.old.members.disks) + extra b.old.rebuild + 5 ≤ (D.shelf self.old.disks.now).left }
+        requires left { length b.old.members.list + extra b.old.rebuild + 5 ≤ (D.shelf self.old.disks.now).left }
         requires place { 64 + self.old.stripe < (D.shelf self.old.disks.now).sectors }
         requires ready { (c : Columns) × Ready (D.shelf self.old.disks.now) (says b.old) c }
-        requires marks { MarksTrue (D.shelf self.old.disks.now) (listed b.old.members.count b.old.members.disks) b.old.members.dead }
+        requires marks { MarksTrue (D.shelf self.old.disks.now) b.old.members.list b.old.members.dead }
         requires few { b.old.generation + 1 < 2 ^ 64 }
-        requires lent { (length columns.now ≡ 64 * length (listed b.old.members.count b.old.members.disks)) × (length sector.old ≡ 64) }
+        requires lent { (length columns.now ≡ 64 * length b.old.members.list) × (length sector.old ≡ 64) }
         ensures same { (self.new.disks.ghost_name ≡ self.old.disks.ghost_name) × ((self.new.stripe ≡ self.old.stripe) × (self.new.touched ≡ self.old.touched)) }
         ensures deaths { Deaths (D.shelf self.old.disks.now) (D.seen self.old.disks.now) (D.shelf self.new.disks.now) (D.seen self.new.disks.now) }
-        ensures spent { (D.shelf self.old.disks.now).left ≤ (D.shelf self.new.disks.now).left + (length (listed b.old.members.count b.old.members.disks) + extra b.old.rebuild + 5) }
-        ensures how { MatchResult result (λ l. (l.stripe ≡ self.old.stripe) × (says b.new ≡ journalling (says b.old) self.old.stripe) × (b.new.members ≡ b.old.members) × Journalled (says b.old) self.old.stripe (held (length (listed b.old.members.count b.old.members.disks)) columns.now) (D.shelf self.old.disks.now) (D.shelf self.new.disks.now)) (λ _. Unjournalled (says b.old) self.old.stripe (held (length (listed b.old.members.count b.old.members.disks)) columns.now) (D.shelf self.old.disks.now) (D.shelf self.new.disks.now)) }
+        ensures spent { (D.shelf self.old.disks.now).left ≤ (D.shelf self.new.disks.now).left + (length b.old.members.list + extra b.old.rebuild + 5) }
+        ensures how { MatchResult result (λ l. (l.stripe ≡ self.old.stripe) × (says b.new ≡ journalling (says b.old) self.old.stripe) × (b.new.members ≡ b.old.members) × Journalled (says b.old) self.old.stripe (held (length b.old.members.list) columns.now) (D.shelf self.old.disks.now) (D.shelf self.new.disks.now)) (λ _. Unjournalled (says b.old) self.old.stripe (held (length b.old.members.list) columns.now) (D.shelf self.old.disks.now) (D.shelf self.new.disks.now)) }
     {
         let r = self.stripe;
         journal_stripe(self.disks, b, r, columns, sector)?;
@@ -153,14 +152,14 @@ impl<'a, D: Disks> StripeWrite<'a, D> {
 
     // What is new of it, in its place.
     pub fn place(self, l: Lasting, b: &Superblock, columns: &[u64]) -> Result<(), Gone>
-        requires left { count (length (listed b.now.members.count b.now.members.disks)) (chosen self.touched.columns) + extra b.now.rebuild ≤ (D.shelf self.disks.now).left }
+        requires left { count (length b.now.members.list) (chosen self.touched.columns) + extra b.now.rebuild ≤ (D.shelf self.disks.now).left }
         requires place { (64 + self.stripe < (D.shelf self.disks.now).sectors) × (((D.shelf self.disks.now).sectors ≤ 4294967296) × (((says b.now).journal ≡ Some self.stripe) × (l.stripe ≡ self.stripe))) }
         requires sound { (c : Columns) × Sound (D.shelf self.disks.now) (says b.now) c }
-        requires marks { MarksTrue (D.shelf self.disks.now) (listed b.now.members.count b.now.members.disks) b.now.members.dead }
-        requires lent { length columns.now ≡ 64 * length (listed b.now.members.count b.now.members.disks) }
+        requires marks { MarksTrue (D.shelf self.disks.now) b.now.members.list b.now.members.dead }
+        requires lent { length columns.now ≡ 64 * length b.now.members.list }
         ensures deaths { Deaths (D.shelf self.entry.disks.now) (D.seen self.entry.disks.now) (D.shelf self.exit.0.now) (D.seen self.exit.0.now) }
-        ensures spent { (D.shelf self.entry.disks.now).left ≤ (D.shelf self.exit.0.now).left + (count (length (listed b.now.members.count b.now.members.disks)) (chosen self.entry.touched.columns) + extra b.now.rebuild) }
-        ensures how { MatchResult result (λ _. Placing (chosen self.entry.touched.columns) (says b.now) self.entry.stripe (held (length (listed b.now.members.count b.now.members.disks)) columns.now) (D.shelf self.entry.disks.now) (D.shelf self.exit.0.now)) (λ _. Unplaced (says b.now) (D.shelf self.entry.disks.now) (D.shelf self.exit.0.now)) }
+        ensures spent { (D.shelf self.entry.disks.now).left ≤ (D.shelf self.exit.0.now).left + (count (length b.now.members.list) (chosen self.entry.touched.columns) + extra b.now.rebuild) }
+        ensures how { MatchResult result (λ _. Placing (chosen self.entry.touched.columns) (says b.now) self.entry.stripe (held (length b.now.members.list) columns.now) (D.shelf self.entry.disks.now) (D.shelf self.exit.0.now)) (λ _. Unplaced (says b.now) (D.shelf self.entry.disks.now) (D.shelf self.exit.0.now)) }
     {
         let Lasting { stripe: _ } = l;
         let StripeWrite {

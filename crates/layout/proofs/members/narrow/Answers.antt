@@ -1,15 +1,6 @@
-use Rattle.std.proofs.Common.{◌≡◌, ℕ, List, [], ◌∷◌, ◌++◌, length, get_or, take, sym, ap, ◌∙◌, arith}
-use Rattle.std.proofs.lemmas.List.{take_all, take_more, take_more_set}
+use Rattle.std.proofs.Common.{zero-add, arith}
+use Rattle.layout.proofs.Listing.{sets_done}
 use Rattle.layout.proofs.members.narrow.Goals as goal
 
-pub loop-p-preserved : goal.loop-p-preserved
-loop-p-preserved c =
-    let w = c.args.words.now in
-    let p = c.loop-p.p in
-    take_more_set c.loop-p.disks p (get_or w p 0) (omega arith) ∙ (ap (λ (xs : List ℕ). xs ++ (get_or w p 0 ∷ [])) c.loop-p.invariant ∙ sym (take_more w p 0 (omega arith)))
-
 pub returns : goal.returns
-returns c =
-    let w = c.args.words.now in
-    let end : c.loop-p.p ≡ length w = omega arith in
-    ap (λ (n : ℕ). take n c.loop-p.disks) (sym end) ∙ (c.loop-p.invariant ∙ take_all c.loop-p.p w (omega arith))
+returns c = simp zero-add at (sets_done c.args.words.now c.loop-p.disks c.args.disks.now 0 c.loop-p.p (omega arith) (omega arith) (rw zero-add c.loop-p.invariant))

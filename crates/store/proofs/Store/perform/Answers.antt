@@ -1,7 +1,6 @@
 use Rattle.std.proofs.Common.{◌≡◌, ℕ, ◌+◌, ◌-◌, ◌*◌, List, length, take, drop, Some, sym, refl, ap, ◌∙◌, subst, arith}
 use Rattle.std.proofs.lemmas.Result.{MatchResult-from_err}
 use Rattle.field.specs.Stripe.{column}
-use Rattle.layout.specs.Members.{listed}
 use Rattle.layout.specs.Super.{says}
 use Rattle.store.specs.Store.{core}
 use Rattle.layout.specs.Places.{stripe_of}
@@ -22,7 +21,7 @@ pub read-requires : goal.read-requires
 read-requires g c =
     let v = c.requires.held in
     let k = v.stands.ready.sound.kept.proper.roster in
-    let fits = subst (λ a. Reaches a ((length (listed c.args.self.now.superblock.members.count c.args.self.now.superblock.members.disks) - 2) * (c.args.self.now.sectors - 64))) c.in-Read.is (within v c.args.tag c.requires.taken.0 c.args.a c.requires.taken.1) in
+    let fits = subst (λ a. Reaches a ((length c.args.self.now.superblock.members.list - 2) * (c.args.self.now.sectors - 64))) c.in-Read.is (within v c.args.tag c.requires.taken.0 c.args.a c.requires.taken.1) in
     record {
       left = omega (arith, c.requires.soon, k.most);
       size = (v.stands.same, fits);
@@ -46,7 +45,7 @@ pub write-requires : goal.write-requires
 write-requires g c =
     let v = c.requires.held in
     let k = v.stands.ready.sound.kept.proper.roster in
-    let fits = subst (λ a. Reaches a ((length (listed c.args.self.now.superblock.members.count c.args.self.now.superblock.members.disks) - 2) * (c.args.self.now.sectors - 64))) c.in-Write.is (within v c.args.tag c.requires.taken.0 c.args.a c.requires.taken.1) in
+    let fits = subst (λ a. Reaches a ((length c.args.self.now.superblock.members.list - 2) * (c.args.self.now.sectors - 64))) c.in-Write.is (within v c.args.tag c.requires.taken.0 c.args.a c.requires.taken.1) in
     record {
       left = omega (arith, ap extra v.stands.explains.idle, c.requires.soon, k.most);
       size = (v.stands.same, fits);

@@ -1,4 +1,5 @@
-use Rattle.std.proofs.Common.{ℕ, ◌<◌, sym, subst, arith}
+use Rattle.std.proofs.Common.{◌≡◌, ℕ, ◌<◌, ◌≤◌, List, length, get_or, take, ap, ◌∙◌, arith}
+use Rattle.std.proofs.lemmas.List.{get_or-take, length-take-le}
 use Rattle.std.proofs.lemmas.Result.{MatchResult-from_err}
 use Rattle.layout.specs.Super.{says}
 use Rattle.store.specs.Durable.{Employed}
@@ -6,26 +7,40 @@ use Rattle.store.proofs.Laws.{went_longer}
 use Rattle.store.proofs.Heads.{copying_none, copying_more, copying_went, copying_is}
 use Rattle.store.proofs.commit.write_copies.Goals as goal
 
-pub loop-p-init : goal.loop-p-init
-loop-p-init g c = copying_none (says c.args.next.now) c.args.words.now (g.D.Disks.shelf c.args.d.now) (g.D.Disks.seen c.args.d.now)
+-- the first three of four or more
+three : (xs ds : List ℕ) → xs ≡ ds → 4 ≤ length ds → length (take 3 xs) ≡ 3
+three xs ds e l = length-take-le 3 xs (omega (arith, ap length e))
+
+three_at : (xs ds : List ℕ) → xs ≡ ds → (p : ℕ) → p < 3 → get_or (take 3 xs) p 0 ≡ get_or ds p 0
+three_at xs ds e p l = get_or-take 3 xs p 0 l ∙ ap (λ (ys : List ℕ). get_or ys p 0) e
+
+pub loop-at-init : goal.loop-at-init
+loop-at-init g c = copying_none (says c.args.next.now) c.args.words.now (g.D.Disks.shelf c.args.d.now) (g.D.Disks.seen c.args.d.now)
 
 pub write_sector-requires : goal.write_sector-requires
 write_sector-requires g c =
-    let w = c.loop-p.invariant.went in
-    let lt : c.loop-p.p < 3 = omega arith in
-    let e : Employed (g.D.Disks.shelf c.loop-p.d) c.at-at.result =
-    subst (λ (i : ℕ). Employed (g.D.Disks.shelf c.loop-p.d) i) (sym c.at-at.ensures.0) (w.deaths.employed _ (c.requires.employed c.loop-p.p lt)) in
+    let w = c.loop-at.invariant.went in
+    let ds = c.disks.ensures in
+    let lt : c.loop-at.at-index < 3 = omega (arith, three _ _ ds.is ds.roster.least) in
+    let e : Employed (g.D.Disks.shelf c.loop-at.d) (get_or (take 3 c.disks.result.now) c.loop-at.at-index 0) = rw (three_at _ _ ds.is c.loop-at.at-index lt) (w.deaths.employed _ (c.requires.employed c.loop-at.at-index lt)) in
     record { may = ((omega (arith, w.spent, c.requires.left), e.there, omega (arith, w.deaths.size, c.requires.size)), e.used); lent = c.requires.lent.0 }
 
 pub returns-in_err-write_sector : goal.returns-in_err-write_sector
 returns-in_err-write_sector g c =
+    let ds = c.disks.ensures in
+    let lt : c.loop-at.at-index < 3 = omega (arith, three _ _ ds.is ds.roster.least) in
     record {
-      went = went_longer (omega arith) (copying_went c.requires.lent.1 (omega arith) c.at-at.ensures.0 c.loop-p.invariant c.write_sector.ensures.went);
+      went = went_longer (omega arith) (copying_went c.requires.lent.1 lt (three_at _ _ ds.is _ lt) c.loop-at.invariant c.write_sector.ensures.went);
       how = MatchResult-from_err c.from_residual.result _ _ c.from_residual.ensures.0 (λ _. c.in_err-write_sector.ensures.how);
     }
 
-pub loop-p-preserved : goal.loop-p-preserved
-loop-p-preserved g c = copying_more c.requires.lent.1 (omega arith) c.at-at.ensures.0 c.loop-p.invariant c.write_sector.ensures.went c.in_ok-write_sector.ensures.how.shows
+pub loop-at-preserved : goal.loop-at-preserved
+loop-at-preserved g c =
+    let ds = c.disks.ensures in
+    let lt : c.loop-at.at-index < 3 = omega (arith, three _ _ ds.is ds.roster.least) in
+    copying_more c.requires.lent.1 lt (three_at _ _ ds.is _ lt) c.loop-at.invariant c.write_sector.ensures.went c.in_ok-write_sector.ensures.how.shows
 
 pub returns : goal.returns
-returns g c = let m = copying_is (omega arith) c.loop-p.invariant in record { went = m.went; how = m }
+returns g c =
+    let ds = c.disks.ensures in
+    let m = copying_is (omega (arith, three _ _ ds.is ds.roster.least)) c.loop-at.invariant in record { went = m.went; how = m }

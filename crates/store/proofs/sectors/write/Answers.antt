@@ -1,6 +1,5 @@
 use Rattle.std.proofs.Common.{◌≡◌, ℕ, ◌+◌, ◌-◌, ◌*◌, ◌<◌, ◌≤◌, Bool, true, false, List, length, set, Some, sym, refl, ap, ◌∙◌, subst, arith, rules}
 use Rattle.std.proofs.lemmas.Result.{MatchResult-from_err, MatchResult-weaker}
-use Rattle.layout.specs.Members.{listed}
 use Rattle.layout.specs.Super.{says}
 use Rattle.store.specs.Durable.{Went, Deaths, Nowhere}
 use Rattle.store.specs.Sectors.{Saved, Unsaved}
@@ -48,7 +47,7 @@ load-requires g c =
 -- the disks after the load, against those that were lent
 pub returns-in_err-missing : goal.returns-in_err-missing
 returns-in_err-missing g c =
-    let ds = listed c.args.b.now.members.count c.args.b.now.members.disks in
+    let ds = c.args.b.now.members.list in
     let x = c.args.d.now in
     let y = c.load.new.self.disks.now in
     let same : c.load.new.self.disks.ghost_name ≡ c.begin-change.result.disks.ghost_name = c.load.ensures.same.0 in
@@ -72,7 +71,7 @@ pub journal-requires : goal.journal-requires
 journal-requires g c =
     let b = c.args.b.now in
     let S = says c.args.b.now in
-    let ds = listed c.args.b.now.members.count c.args.b.now.members.disks in
+    let ds = c.args.b.now.members.list in
     let k = c.requires.ready.1.0.sound.kept in
     let some : 64 < c.args.n = omega (arith, c.requires.size.0, k.least) in
     let r = c.locate-at.result.stripe in
@@ -83,7 +82,7 @@ journal-requires g c =
     subst (λ (v : g.row.D.Denot). Went (length ds) Nowhere (g.D.Disks.shelf x) (g.D.Disks.seen x) (g.D.Disks.shelf v) (g.D.Disks.seen v)) (sym c.take.ensures.same.1.0)
     (subst (λ (v : g.row.D.Denot). Went (length ds) Nowhere (g.D.Disks.shelf v) (g.D.Disks.seen v) (g.D.Disks.shelf c.load.new.self.disks.now) (g.D.Disks.seen c.load.new.self.disks.now)) c.begin-change.ensures.1.0 c.load.ensures.went) in
     let list = c.learn.ensures.list in
-    let many : length (listed c.learn.new.members.count c.learn.new.members.disks) ≡ length ds = ap length list in
+    let many : length c.learn.new.members.list ≡ length ds = ap length list in
     let at-r : c.take.new.self.stripe ≡ r = c.take.ensures.same.1.1 ∙ (c.load.ensures.same.1.0 ∙ c.begin-change.ensures.1.1.0) in
     let dead : _ = subst (λ (v : g.row.D.Denot). Each c.in_ok-missing.missing (λ i. (i < length ds) × ((g.D.Disks.shelf v).alive (disk_of ds c.begin-change.result.stripe i) ≡ false))) (sym c.take.ensures.same.1.0) c.in_ok-missing.ensures.how.dead in
     let long : length c.load.new.columns ≡ length c.args.columns.now = c.load.auto.columns in
@@ -101,7 +100,7 @@ pub returns-in_err-lasting : goal.returns-in_err-lasting
 returns-in_err-lasting g c =
     let b = c.args.b.now in
     let S = says c.args.b.now in
-    let ds = listed c.args.b.now.members.count c.args.b.now.members.disks in
+    let ds = c.args.b.now.members.list in
     let k = c.requires.ready.1.0.sound.kept in
     let some : 64 < c.args.n = omega (arith, c.requires.size.0, k.least) in
     let r = c.locate-at.result.stripe in
@@ -126,7 +125,7 @@ returns-in_err-lasting g c =
     (subst (λ (Q : Super). Unjournalled Q c.take.new.self.stripe (held (length Q.members) u) (g.D.Disks.shelf y) (g.D.Disks.shelf z)) e c.in_err-lasting.ensures.how) in
     let gone : Unsaved c.args.n c.args.s c.args.words.now S (g.D.Disks.shelf x) (g.D.Disks.shelf z) =
     unsaved_journal S c.args.n c.args.s r j t u c.args.words.now some c.requires.size.1 c.locate-at.ensures.1 c.locate-at.ensures.0 k.proper.roster.most c.requires.size.0 w p put un in
-    let many : length (listed c.learn.new.members.count c.learn.new.members.disks) ≡ length ds = ap length c.learn.ensures.list in
+    let many : length c.learn.new.members.list ≡ length ds = ap length c.learn.ensures.list in
     let few : (g.D.Disks.shelf x).left ≤ (g.D.Disks.shelf z).left + (2 * length ds + 2 * extra b.rebuild + 8) = omega (arith, many, w.spent, c.journal.ensures.spent) in
     let died : Deaths (g.D.Disks.shelf x) (g.D.Disks.seen x) (g.D.Disks.shelf z) (g.D.Disks.seen z) = deaths_then w.deaths c.journal.ensures.deaths in
     record { deaths = search rules; spent = search rules; how = MatchResult-from_err c.from_residual-in_err-lasting.result _ _ c.from_residual-in_err-lasting.ensures.0 (λ _. search rules) }
@@ -135,7 +134,7 @@ pub place-requires : goal.place-requires
 place-requires g c =
     let b = c.args.b.now in
     let S = says c.args.b.now in
-    let ds = listed c.args.b.now.members.count c.args.b.now.members.disks in
+    let ds = c.args.b.now.members.list in
     let k = c.requires.ready.1.0.sound.kept in
     let some : 64 < c.args.n = omega (arith, c.requires.size.0, k.least) in
     let r = c.locate-at.result.stripe in
@@ -161,13 +160,13 @@ place-requires g c =
     let q : Journalled S r (held (length ds) u) (g.D.Disks.shelf y) (g.D.Disks.shelf z) =
     subst (λ (q : ℕ). Journalled S q (held (length ds) u) (g.D.Disks.shelf y) (g.D.Disks.shelf z)) at-r
     (subst (λ (Q : Super). Journalled Q c.take.new.self.stripe (held (length Q.members) u) (g.D.Disks.shelf y) (g.D.Disks.shelf z)) e jl.3) in
-    let many : length (listed c.learn.new.members.count c.learn.new.members.disks) ≡ length ds = ap length c.learn.ensures.list in
-    let many2 : length (listed c.journal.new.b.members.count c.journal.new.b.members.disks) ≡ length ds = ap (λ (Q : Super). length Q.members) same-b in
+    let many : length c.learn.new.members.list ≡ length ds = ap length c.learn.ensures.list in
+    let many2 : length c.journal.new.b.members.list ≡ length ds = ap (λ (Q : Super). length Q.members) same-b in
     let adds : extra c.journal.new.b.rebuild ≡ extra b.rebuild = ap (λ (Q : Super). extra Q.rebuild) same-b in
     let died : Deaths (g.D.Disks.shelf x) (g.D.Disks.seen x) (g.D.Disks.shelf z) (g.D.Disks.seen z) = deaths_then w.deaths c.journal.ensures.deaths in
     let sel : c.journal.new.self.touched.columns ≡ touching j =
     ap (λ (v : Selection). v.columns) c.journal.ensures.same.1.1 ∙ (c.take.ensures.touched ∙ ap (λ (v : List Bool). set v (2 + j) true) (ap (λ (v : Selection). v.columns) c.load.ensures.same.1.1 ∙ c.begin-change.ensures.1.1.1)) in
-    let ms = listed c.journal.new.b.members.count c.journal.new.b.members.disks in
+    let ms = c.journal.new.b.members.list in
     let three : count (length ms) (chosen c.journal.new.self.touched.columns) ≤ 3 = subst (λ (v : List Bool). count (length ms) (chosen v) ≤ 3) (sym sel) (few_touched (length ms) j) in
     let at-r2 : c.journal.new.self.stripe ≡ r = c.journal.ensures.same.1.0 ∙ at-r in
     let l = at_stripe c.args.n _ c.args.s r j some c.requires.size.1 c.locate-at.ensures.1 c.locate-at.ensures.0 in
@@ -175,7 +174,7 @@ place-requires g c =
     let marks-y : MarksTrue (g.D.Disks.shelf y) ds (learned b.members.dead c.in_ok-missing.missing r) = marks_learned (g.D.Disks.shelf y) ds b.members.dead c.in_ok-missing.missing r (marks_went w ds b.members.dead c.requires.marks) dead in
     let mem : c.journal.new.b.members ≡ c.learn.new.members = jl.2 in
     let marks-z : MarksTrue (g.D.Disks.shelf z) ms c.journal.new.b.members.dead =
-    marks_kept (g.D.Disks.shelf z) (sym (ap (λ (v : Members). listed v.count v.disks) mem ∙ c.learn.ensures.list)) (sym (ap (λ (v : Members). v.dead) mem ∙ c.learn.ensures.marks)) (marks_deaths c.journal.ensures.deaths ds _ marks-y) in
+    marks_kept (g.D.Disks.shelf z) (sym (ap (λ (v : Members). v.list) mem ∙ c.learn.ensures.list)) (sym (ap (λ (v : Members). v.dead) mem ∙ c.learn.ensures.marks)) (marks_deaths c.journal.ensures.deaths ds _ marks-y) in
     let long : length c.load.new.columns ≡ length c.args.columns.now = c.load.auto.columns in
     let long2 : length c.take.new.columns ≡ length c.load.new.columns = c.take.auto.columns in
     let c₀ = c.requires.ready.0 in
@@ -187,11 +186,11 @@ place-requires g c =
       lent = omega (arith, many2, long, long2, c.requires.lent.0);
     }
 
-facts : (g : Over) (c : goal.After-d-2-1 g) → (Deaths (g.D.Disks.shelf c.args.d.now) (g.D.Disks.seen c.args.d.now) (g.D.Disks.shelf c.place.new.self.0) (g.D.Disks.seen c.place.new.self.0)) × ((g.D.Disks.shelf c.args.d.now).left ≤ (g.D.Disks.shelf c.place.new.self.0).left + (2 * length (listed c.args.b.now.members.count c.args.b.now.members.disks) + 2 * extra c.args.b.now.rebuild + 8)) × (c.journal.new.self.disks.ghost_name ≡ c.begin-change.result.disks.ghost_name) × (says c.journal.new.b ≡ journalling (says c.args.b.now) (stripe_of (c.args.n - 64) c.args.s)) × (MarksTrue (g.D.Disks.shelf c.place.new.self.0) (listed c.journal.new.b.members.count c.journal.new.b.members.disks) c.journal.new.b.members.dead) × (Unplaced (says c.journal.new.b) (g.D.Disks.shelf c.journal.new.self.disks.now) (g.D.Disks.shelf c.place.new.self.0) → Unsaved c.args.n c.args.s c.args.words.now (says c.args.b.now) (g.D.Disks.shelf c.args.d.now) (g.D.Disks.shelf c.place.new.self.0)) × (Placing (chosen c.journal.new.self.touched.columns) (says c.journal.new.b) c.journal.new.self.stripe (held (length (listed c.journal.new.b.members.count c.journal.new.b.members.disks)) c.take.new.columns) (g.D.Disks.shelf c.journal.new.self.disks.now) (g.D.Disks.shelf c.place.new.self.0) → Saved c.args.n c.args.s c.args.words.now (says c.args.b.now) (g.D.Disks.shelf c.args.d.now) (g.D.Disks.shelf c.place.new.self.0))
+facts : (g : Over) (c : goal.After-d-2-1 g) → (Deaths (g.D.Disks.shelf c.args.d.now) (g.D.Disks.seen c.args.d.now) (g.D.Disks.shelf c.place.new.self.0) (g.D.Disks.seen c.place.new.self.0)) × ((g.D.Disks.shelf c.args.d.now).left ≤ (g.D.Disks.shelf c.place.new.self.0).left + (2 * length c.args.b.now.members.list + 2 * extra c.args.b.now.rebuild + 8)) × (c.journal.new.self.disks.ghost_name ≡ c.begin-change.result.disks.ghost_name) × (says c.journal.new.b ≡ journalling (says c.args.b.now) (stripe_of (c.args.n - 64) c.args.s)) × (MarksTrue (g.D.Disks.shelf c.place.new.self.0) c.journal.new.b.members.list c.journal.new.b.members.dead) × (Unplaced (says c.journal.new.b) (g.D.Disks.shelf c.journal.new.self.disks.now) (g.D.Disks.shelf c.place.new.self.0) → Unsaved c.args.n c.args.s c.args.words.now (says c.args.b.now) (g.D.Disks.shelf c.args.d.now) (g.D.Disks.shelf c.place.new.self.0)) × (Placing (chosen c.journal.new.self.touched.columns) (says c.journal.new.b) c.journal.new.self.stripe (held (length c.journal.new.b.members.list) c.take.new.columns) (g.D.Disks.shelf c.journal.new.self.disks.now) (g.D.Disks.shelf c.place.new.self.0) → Saved c.args.n c.args.s c.args.words.now (says c.args.b.now) (g.D.Disks.shelf c.args.d.now) (g.D.Disks.shelf c.place.new.self.0))
 facts g c =
     let b = c.args.b.now in
     let S = says c.args.b.now in
-    let ds = listed c.args.b.now.members.count c.args.b.now.members.disks in
+    let ds = c.args.b.now.members.list in
     let k = c.requires.ready.1.0.sound.kept in
     let some : 64 < c.args.n = omega (arith, c.requires.size.0, k.least) in
     let r = c.locate-at.result.stripe in
@@ -217,13 +216,13 @@ facts g c =
     let q : Journalled S r (held (length ds) u) (g.D.Disks.shelf y) (g.D.Disks.shelf z) =
     subst (λ (q : ℕ). Journalled S q (held (length ds) u) (g.D.Disks.shelf y) (g.D.Disks.shelf z)) at-r
     (subst (λ (Q : Super). Journalled Q c.take.new.self.stripe (held (length Q.members) u) (g.D.Disks.shelf y) (g.D.Disks.shelf z)) e jl.3) in
-    let many : length (listed c.learn.new.members.count c.learn.new.members.disks) ≡ length ds = ap length c.learn.ensures.list in
-    let many2 : length (listed c.journal.new.b.members.count c.journal.new.b.members.disks) ≡ length ds = ap (λ (Q : Super). length Q.members) same-b in
+    let many : length c.learn.new.members.list ≡ length ds = ap length c.learn.ensures.list in
+    let many2 : length c.journal.new.b.members.list ≡ length ds = ap (λ (Q : Super). length Q.members) same-b in
     let adds : extra c.journal.new.b.rebuild ≡ extra b.rebuild = ap (λ (Q : Super). extra Q.rebuild) same-b in
     let died : Deaths (g.D.Disks.shelf x) (g.D.Disks.seen x) (g.D.Disks.shelf z) (g.D.Disks.seen z) = deaths_then w.deaths c.journal.ensures.deaths in
     let sel : c.journal.new.self.touched.columns ≡ touching j =
     ap (λ (v : Selection). v.columns) c.journal.ensures.same.1.1 ∙ (c.take.ensures.touched ∙ ap (λ (v : List Bool). set v (2 + j) true) (ap (λ (v : Selection). v.columns) c.load.ensures.same.1.1 ∙ c.begin-change.ensures.1.1.1)) in
-    let ms = listed c.journal.new.b.members.count c.journal.new.b.members.disks in
+    let ms = c.journal.new.b.members.list in
     let three : count (length ms) (chosen c.journal.new.self.touched.columns) ≤ 3 = subst (λ (v : List Bool). count (length ms) (chosen v) ≤ 3) (sym sel) (few_touched (length ms) j) in
     let at-r2 : c.journal.new.self.stripe ≡ r = c.journal.ensures.same.1.0 ∙ at-r in
     let l = at_stripe c.args.n _ c.args.s r j some c.requires.size.1 c.locate-at.ensures.1 c.locate-at.ensures.0 in
@@ -231,7 +230,7 @@ facts g c =
     let marks-y : MarksTrue (g.D.Disks.shelf y) ds (learned b.members.dead c.in_ok-missing.missing r) = marks_learned (g.D.Disks.shelf y) ds b.members.dead c.in_ok-missing.missing r (marks_went w ds b.members.dead c.requires.marks) dead in
     let mem : c.journal.new.b.members ≡ c.learn.new.members = jl.2 in
     let marks-z : MarksTrue (g.D.Disks.shelf z) ms c.journal.new.b.members.dead =
-    marks_kept (g.D.Disks.shelf z) (sym (ap (λ (v : Members). listed v.count v.disks) mem ∙ c.learn.ensures.list)) (sym (ap (λ (v : Members). v.dead) mem ∙ c.learn.ensures.marks)) (marks_deaths c.journal.ensures.deaths ds _ marks-y) in
+    marks_kept (g.D.Disks.shelf z) (sym (ap (λ (v : Members). v.list) mem ∙ c.learn.ensures.list)) (sym (ap (λ (v : Members). v.dead) mem ∙ c.learn.ensures.marks)) (marks_deaths c.journal.ensures.deaths ds _ marks-y) in
     let v = c.place.new.self.0 in
     let all-died : Deaths (g.D.Disks.shelf x) (g.D.Disks.seen x) (g.D.Disks.shelf v) (g.D.Disks.seen v) = deaths_then died c.place.ensures.deaths in
     let few : (g.D.Disks.shelf x).left ≤ (g.D.Disks.shelf v).left + (2 * length ds + 2 * extra b.rebuild + 8) = omega (arith, many, adds, three, w.spent, c.journal.ensures.spent, c.place.ensures.spent) in
@@ -250,12 +249,12 @@ pub returns : goal.returns
 returns g c =
     let same : c.journal.new.self.disks.ghost_name ≡ c.begin-change.result.disks.ghost_name = (facts g c).2 in
     let died : Deaths (g.D.Disks.shelf c.args.d.now) (g.D.Disks.seen c.args.d.now) (g.D.Disks.shelf c.place.new.self.0) (g.D.Disks.seen c.place.new.self.0) = (facts g c).0 in
-    let few : (g.D.Disks.shelf c.args.d.now).left ≤ (g.D.Disks.shelf c.place.new.self.0).left + (2 * length (listed c.args.b.now.members.count c.args.b.now.members.disks) + 2 * extra c.args.b.now.rebuild + 8) = (facts g c).1 in
+    let few : (g.D.Disks.shelf c.args.d.now).left ≤ (g.D.Disks.shelf c.place.new.self.0).left + (2 * length c.args.b.now.members.list + 2 * extra c.args.b.now.rebuild + 8) = (facts g c).1 in
     record {
       deaths = search rules;
       spent = search rules;
       how =
           MatchResult-weaker c.place.result c.place.ensures.how
-          (λ _ o. let marks : MarksTrue (g.D.Disks.shelf c.place.new.self.0) (listed c.journal.new.b.members.count c.journal.new.b.members.disks) c.journal.new.b.members.dead = (facts g c).4 in let saved : Saved c.args.n c.args.s c.args.words.now (says c.args.b.now) (g.D.Disks.shelf c.args.d.now) (g.D.Disks.shelf c.place.new.self.0) = (facts g c).6 o in ((facts g c).3, search rules, search rules))
+          (λ _ o. let marks : MarksTrue (g.D.Disks.shelf c.place.new.self.0) c.journal.new.b.members.list c.journal.new.b.members.dead = (facts g c).4 in let saved : Saved c.args.n c.args.s c.args.words.now (says c.args.b.now) (g.D.Disks.shelf c.args.d.now) (g.D.Disks.shelf c.place.new.self.0) = (facts g c).6 o in ((facts g c).3, search rules, search rules))
           (λ _ o. let unsaved : Unsaved c.args.n c.args.s c.args.words.now (says c.args.b.now) (g.D.Disks.shelf c.args.d.now) (g.D.Disks.shelf c.place.new.self.0) = (facts g c).5 o in search rules);
     }

@@ -1,6 +1,5 @@
 use Rattle.std.proofs.Common.{ℕ, get_or, sym, subst, arith}
 use Rattle.std.proofs.lemmas.Result.{MatchResult-weaker}
-use Rattle.layout.specs.Members.{listed}
 use Rattle.store.specs.Durable.{Heard}
 use Rattle.store.proofs.Truths.{true-T}
 use Rattle.store.proofs.Laws.{went_none, went_longer}
@@ -12,7 +11,7 @@ returns-then-is_marked g c =
     let m = c.args.members.now in
     record {
       went = went_longer (omega arith) (went_none _ _ _);
-      how = answered_marked (get_or (listed m.count m.disks) c.args.p 0) c.args.s c.args.into.now (g.D.Disks.shelf c.args.d.now)
+      how = answered_marked (get_or m.list c.args.p 0) c.args.s c.args.into.now (g.D.Disks.shelf c.args.d.now)
           (c.requires.serving.marks c.args.p c.requires.place.0 (true-T (sym c.if-is_marked.ensures)));
     }
 

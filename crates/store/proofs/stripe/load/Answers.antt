@@ -2,7 +2,6 @@ use Rattle.std.proofs.Common.{◌≡◌, ℕ, ◌+◌, ◌-◌, ◌*◌, ◌<◌
 use Rattle.std.proofs.lemmas.Result.{MatchResult-from_err}
 use Rattle.field.specs.Missing.{Within, Mends}
 use Rattle.field.proofs.Missings.{known_within}
-use Rattle.layout.specs.Members.{listed}
 use Rattle.layout.proofs.Turning.{place_within}
 use Rattle.store.specs.Stripes.{disk_of, Answered}
 use Rattle.store.proofs.Laws.{went_then, went_longer}
@@ -15,7 +14,7 @@ loop-i-init g c = loading_none _ _ _ _ _ _
 
 pub fetch-requires : goal.fetch-requires
 fetch-requires g c =
-    let ds = listed c.args.members.now.count c.args.members.now.disks in
+    let ds = c.args.members.now.list in
     let w = c.loop-i.invariant.went in
     let l : c.loop-i.i < length ds = omega (arith, c.many-k.ensures.is.0) in
     let b = place_within (length ds) c.loop-i.i c.args.r (omega (arith, c.many-k.ensures.is)) l in
@@ -35,7 +34,7 @@ returns-in_err-fetch g c =
 
 pub loop-i-preserved : goal.loop-i-preserved
 loop-i-preserved g c =
-    let ds = listed c.args.members.now.count c.args.members.now.disks in
+    let ds = c.args.members.now.list in
     let l : c.loop-i.i < length ds = omega (arith, c.many-k.ensures.is.0) in
     let lt : 64 * c.loop-i.i + 64 ≤ length c.loop-i.stripe = omega (arith, l) in
     let ly : length c.fetch.new.into ≡ 64 = omega arith in
@@ -67,7 +66,7 @@ mend-requires g c =
 
 pub returns : goal.returns
 returns g c =
-    let ds = listed c.args.members.now.count c.args.members.now.disks in
+    let ds = c.args.members.now.list in
     let e : c.loop-i.i ≡ length ds = omega (arith, c.many-k.ensures.is.0) in
     let p = loading_is e c.loop-i.invariant in
     record {

@@ -1,7 +1,6 @@
 use Rattle.std.proofs.Common.{◌≡◌, ℕ, ◌+◌, ◌-◌, ◌*◌, length, get_or, take, drop, ap, ◌∙◌, subst, arith}
 use Rattle.std.proofs.lemmas.Result.{MatchResult-from_err}
 use Rattle.field.specs.Stripe.{column}
-use Rattle.layout.specs.Members.{listed}
 use Rattle.layout.proofs.Turning.{place_within}
 use Rattle.store.specs.Stripes.{Answered}
 use Rattle.store.proofs.Laws.{went_then, went_longer}
@@ -10,7 +9,7 @@ use Rattle.store.proofs.stripe.read_column.Goals as goal
 
 pub fetch-requires : goal.fetch-requires
 fetch-requires g c =
-    let ds = listed c.args.members.now.count c.args.members.now.disks in
+    let ds = c.args.members.now.list in
     let b = place_within (length ds) c.args.i c.args.r c.requires.serving.roster.least c.requires.size.1 in
     record { left = omega (arith, c.requires.left); place = (omega (arith, b, c.place_of-p.ensures), c.requires.size.0); serving = c.requires.serving; lent = c.requires.lent.1 }
 
@@ -27,7 +26,7 @@ load-requires g c =
     record {
       left = omega (arith, w.spent, c.requires.left);
       size = omega (arith, w.deaths.size, c.requires.size.0);
-      serving = serving_went w (listed c.args.members.now.count c.args.members.now.disks) c.args.members.now.dead c.requires.serving;
+      serving = serving_went w c.args.members.now.list c.args.members.now.dead c.requires.serving;
       lent = c.requires.lent.0;
     }
 
@@ -50,7 +49,7 @@ returns g c =
 
 pub returns-then-branch : goal.returns-then-branch
 returns-then-branch g c =
-    let ds = listed c.args.members.now.count c.args.members.now.disks in
+    let ds = c.args.members.now.list in
     record {
       went = went_longer (omega arith) c.fetch.ensures.went;
       how = read_one c.in_ok-fetch.field-0 c.requires.serving.roster c.requires.size.1 c.if-branch.true c.fetch.ensures.went

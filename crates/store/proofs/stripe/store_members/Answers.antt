@@ -2,7 +2,6 @@ use Rattle.std.proofs.Common.{◌≡◌, ℕ, ◌+◌, ◌-◌, ◌*◌, ◌<◌
 use Rattle.std.proofs.lemmas.Result.{MatchResult-from_err}
 use Rattle.field.specs.Stripe.{held}
 use Rattle.field.proofs.Putting.{held_in}
-use Rattle.layout.specs.Members.{listed}
 use Rattle.layout.proofs.Turning.{place_within}
 use Rattle.store.specs.Durable.{Here, Went, Shows}
 use Rattle.store.specs.Stripes.{chosen}
@@ -27,7 +26,7 @@ words_are i k t l = let m : 64 * i + 64 - 64 * i ≡ 64 = omega arith in ap (λ 
 
 pub lay-requires : goal.lay-requires
 lay-requires g c =
-    let ds = listed c.args.members.now.count c.args.members.now.disks in
+    let ds = c.args.members.now.list in
     let sel = chosen c.args.which.now.columns in
     let w = c.loop-i.invariant.went in
     let l : c.loop-i.i < length ds = omega (arith, c.many-i-end.ensures.is.0) in
@@ -43,7 +42,7 @@ lay-requires g c =
 
 pub returns-in_err-lay : goal.returns-in_err-lay
 returns-in_err-lay g c =
-    let ds = listed c.args.members.now.count c.args.members.now.disks in
+    let ds = c.args.members.now.list in
     let sel = chosen c.args.which.now.columns in
     let l : c.loop-i.i < length ds = omega (arith, c.many-i-end.ensures.is.0) in
     let most = count_below (c.loop-i.i + 1) (length ds) sel (omega arith) in
@@ -55,7 +54,7 @@ returns-in_err-lay g c =
 
 pub loop-i-preserved : goal.loop-i-preserved
 loop-i-preserved g c =
-    let ds = listed c.args.members.now.count c.args.members.now.disks in
+    let ds = c.args.members.now.list in
     let l : c.loop-i.i < length ds = omega (arith, c.many-i-end.ensures.is.0) in
     elim c.if-has.branch [
       | then-has+in_ok-lay b ↦
@@ -68,5 +67,5 @@ loop-i-preserved g c =
 
 pub returns : goal.returns
 returns g c =
-    let e : c.loop-i.i ≡ length (listed c.args.members.now.count c.args.members.now.disks) = omega (arith, c.many-i-end.ensures.is.0) in
+    let e : c.loop-i.i ≡ length c.args.members.now.list = omega (arith, c.many-i-end.ensures.is.0) in
     let p = storing_is e c.loop-i.invariant in record { went = p.went; how = p }

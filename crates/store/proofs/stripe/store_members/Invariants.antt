@@ -1,10 +1,9 @@
 use Rattle.std.proofs.Common.{length}
 use Rattle.field.specs.Stripe.{held}
-use Rattle.layout.specs.Members.{listed}
 use Rattle.store.specs.Stripes.{Storing, chosen}
 use Rattle.store.proofs.stripe.store_members.Given as goal
 
 abbrev pub invariant-loop-i : goal.invariant-loop-i
 invariant-loop-i g l =
-    Storing l.i (chosen l.which.columns) (listed l.members.count l.members.disks) l.s l.r (held (length (listed l.members.count l.members.disks)) l.stripe)
+    Storing l.i (chosen l.which.columns) l.members.list l.s l.r (held (length l.members.list) l.stripe)
     (g.D.Disks.shelf l.initial.d) (g.D.Disks.seen l.initial.d) (g.D.Disks.shelf l.d) (g.D.Disks.seen l.d)

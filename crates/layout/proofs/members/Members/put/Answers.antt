@@ -1,17 +1,16 @@
-use Rattle.std.proofs.Common.{◌<◌, ◌≤◌, length, arith}
-use Rattle.layout.proofs.Listing.{take_of_set, listed_length, absent_places, set_known, set_apart}
+use Rattle.std.proofs.Common.{length, set, ap, ◌∙◌, arith}
+use Rattle.std.proofs.Math.Seq.{take-set-lt}
+use Rattle.layout.specs.Members.{Membership}
+use Rattle.layout.proofs.Listing.{packed_set}
 use Rattle.layout.proofs.members.Members.put.Goals as goal
+
+pub offset_bounds-self-inside-p : goal.offset_bounds-self-inside-p
+offset_bounds-self-inside-p c = omega (arith, ap (λ (v : Membership). length v.list) c.self.view_is, c.self.invariant.roster.most)
 
 pub invariant_of-self : goal.invariant_of-self
 invariant_of-self c =
-    let m = c.args.self.now in
-    let fits : m.count ≤ length m.disks = omega arith in
-    let l : c.args.p < length m.disks = omega (arith, listed_length m.count m.disks fits) in
-    record {
-      few = m.few;
-      known = set_known _ _ _ _ l c.requires.new.0 (λ k b n. m.known k b);
-      apart = set_apart _ _ _ _ l (λ k b n. absent_places m.count m.disks fits c.args.d c.requires.new.1 k b) (λ p q b h u v. m.apart p q b h);
-    }
+    packed_set _ _ c.self.invariant c.args.d c.requires.new.0 (rw (ap (λ (v : Membership). v.list) c.self.view_is) c.requires.new.1) c.args.p (rw (ap (λ (v : Membership). v.list) c.self.view_is) c.requires.place)
 
-pub returns : goal.returns
-returns c = record { list = take_of_set c.args.self.now.count c.args.self.now.disks c.args.p c.args.d; marks = c.without-self.ensures }
+pub returns-clause-list : goal.returns-clause-list
+returns-clause-list c =
+    take-set-lt _ _ _ _ (omega (arith, ap (λ (v : Membership). length v.list) c.self.view_is, c.self.invariant.many)) ∙ ap (λ (v : Membership). set v.list c.args.p c.args.d) c.self.view_is

@@ -1,5 +1,5 @@
 use Rattle.std.proofs.Common.{◌≡◌, ℕ, ◌+◌, ◌-◌, get_or, take, drop, sym, ap, ◌∙◌, subst, arith, rules}
-use Rattle.layout.specs.Members.{Roster, listed}
+use Rattle.layout.specs.Members.{Roster}
 use Rattle.layout.proofs.Coding.{marked_says, unmarked_says, proper_marked, few_said, small_said, parts_same}
 use Rattle.layout.proofs.superblock.Superblock.decode.Goals as goal
 
@@ -29,5 +29,5 @@ returns c =
     let w = c.args.words.now in
     let m = c.read.result in
     let many : 8 + get_or w 2 0 - 8 ≡ get_or w 2 0 = omega arith in
-    let members : listed m.count m.disks ≡ take (get_or w 2 0) (drop 8 w) = c.read.ensures.0 ∙ ap (λ (n : ℕ). take n (drop 8 w)) many in
+    let members : m.list ≡ take (get_or w 2 0) (drop 8 w) = c.read.ensures.0 ∙ ap (λ (n : ℕ). take n (drop 8 w)) many in
     (parts_same (get_or w 1 0) _ _ _ _ _ _ members c.rebuild_from.ensures c.journal_from.ensures ∙ sym (marked_says w c.if-words-ne-MARK.false), c.read.ensures.1)
