@@ -34,16 +34,14 @@ pub fn read_again() -> u8
 }
 
 // Which generation a sector says, whatever it holds.
-pub fn generation_of(words: &[u64]) -> u64
-    requires { length words.now ≡ 64 }
+pub fn generation_of(words: &[u64; 64]) -> u64
     ensures { result ≡ (super_of words.now).generation }
 {
     if words[0] == MARK { words[1] } else { 0 }
 }
 
 // The members at word 8 and on; all other words stay.
-fn write_members(members: &Members, words: &mut [u64])
-    requires { length words.old ≡ 64 }
+fn write_members(members: &Members, words: &mut [u64; 64])
     ensures { words.new ≡ take 8 words.old ++ (members.now.list ++ drop (8 + length members.now.list) words.old) }
 {
     for (p, &disk) in members.disks().iter().enumerate() {
@@ -83,8 +81,8 @@ impl Superblock {
     }
 
     // The words 0 to 7, in a sector of noughts.
-    fn write_heading(&self, words: &mut [u64])
-        requires lent { words.old ≡ replicate 64 0 }
+    fn write_heading(&self, words: &mut [u64; 64])
+        requires blank { words.old ≡ replicate 64 0 }
         requires numbered { Numbered self.now.journal }
         ensures { words.new ≡ heading (says self.now) ++ replicate 56 0 }
     {
@@ -102,20 +100,18 @@ impl Superblock {
     }
 
     // The words that say it.
-    pub fn encode(&self, words: &mut [u64])
-        requires lent { length words.old ≡ 64 }
-        requires numbered { Numbered self.now.journal }
+    pub fn encode(&self, words: &mut [u64; 64])
+        requires { Numbered self.now.journal }
         ensures { words.new ≡ words_of (says self.now) }
     {
-        words.fill(0);
+        *words = [0; 64];
         self.write_heading(words);
         write_members(&self.members, words);
     }
 
     // What the words of a sector say, if they are a superblock's of the store, or noughts.
-    pub fn decode(words: &[u64]) -> Superblock
-        requires lent { length words.now ≡ 64 }
-        requires proper { Proper (super_of words.now) }
+    pub fn decode(words: &[u64; 64]) -> Superblock
+        requires { Proper (super_of words.now) }
         ensures { (says result ≡ super_of words.now) × (result.members.dead ≡ Nobody) }
     {
         if words[0] != MARK {
@@ -132,9 +128,8 @@ impl Superblock {
 }
 
 // The disk that is being filled, as the words of a superblock have it.
-fn rebuild_from(words: &[u64]) -> Option<Rebuild>
-    requires lent { length words.now ≡ 64 }
-    requires small { (slice_index words.now 3 ≢ 0) → slice_index words.now 5 < 16 }
+fn rebuild_from(words: &[u64; 64]) -> Option<Rebuild>
+    requires { (slice_index words.now 3 ≢ 0) → slice_index words.now 5 < 16 }
     ensures { result ≡ rebuild_of words.now }
 {
     (words[3] != 0).then(|| Rebuild {
@@ -145,8 +140,7 @@ fn rebuild_from(words: &[u64]) -> Option<Rebuild>
 }
 
 // The stripe in the journal, likewise.
-fn journal_from(words: &[u64]) -> Option<u64>
-    requires { length words.now ≡ 64 }
+fn journal_from(words: &[u64; 64]) -> Option<u64>
     ensures { result ≡ journal_of words.now }
 {
     words[7].checked_sub(1)

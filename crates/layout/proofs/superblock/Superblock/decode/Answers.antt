@@ -8,21 +8,21 @@ returns-then-words-ne-MARK c = (c.first.ensures.0 ∙ sym (unmarked_says c.args.
 
 pub overflow_add-many : goal.overflow_add-many
 overflow_add-many c =
-    let w = c.args.words.now in let f = few_said (get_or w 2 0) w c.requires.lent (proper_marked w c.if-words-ne-MARK.false c.requires.proper).roster in omega arith
+    let w = c.args.words.now in let f = few_said (get_or w 2 0) w c.told-words (proper_marked w c.if-words-ne-MARK.false c.requires).roster in omega arith
 
 pub slice_bounds-read-end : goal.slice_bounds-read-end
 slice_bounds-read-end c =
-    let w = c.args.words.now in let f = few_said (get_or w 2 0) w c.requires.lent (proper_marked w c.if-words-ne-MARK.false c.requires.proper).roster in search rules
+    let w = c.args.words.now in let f = few_said (get_or w 2 0) w c.told-words (proper_marked w c.if-words-ne-MARK.false c.requires).roster in search rules
 
 pub read-requires : goal.read-requires
 read-requires c =
     let w = c.args.words.now in
     let same : get_or w 2 0 ≡ 8 + get_or w 2 0 - 8 = omega arith in
-    subst (λ (n : ℕ). Roster (take n (drop 8 w))) same (proper_marked w c.if-words-ne-MARK.false c.requires.proper).roster
+    subst (λ (n : ℕ). Roster (take n (drop 8 w))) same (proper_marked w c.if-words-ne-MARK.false c.requires).roster
 
 pub rebuild_from-requires : goal.rebuild_from-requires
 rebuild_from-requires c =
-    let w = c.args.words.now in record { lent = c.requires.lent; small = small_said w (take (get_or w 2 0) (drop 8 w)) (proper_marked w c.if-words-ne-MARK.false c.requires.proper).joins }
+    let w = c.args.words.now in small_said w (take (get_or w 2 0) (drop 8 w)) (proper_marked w c.if-words-ne-MARK.false c.requires).joins
 
 pub returns : goal.returns
 returns c =
