@@ -4,7 +4,6 @@ use Rattle.std.proofs.Common.{◌≡◌, ℕ, ◌+◌, ◌-◌, ◌<◌, ◌≤�
 use Rattle.field.specs.Column.{Sector, noughts, Good}
 use Rattle.field.specs.Stripe.{data_of, held, Codeword, Lies, Written, Anew, Put}
 use Rattle.field.proofs.Parities.{nothing_behind_lem}
-use Rattle.field.proofs.Slices.{held_is}
 
 module _ (k j : ℕ) (w : Sector) (s u t : ℕ → Sector) (few : 4 ≤ k) (l : 2 + j < k) (good : (i : ℕ) → Good (t i)) (beyond : (i : ℕ) → k ≤ i → t i ≡ noughts)
     (wr : Written (2 + j) w s u) (an : Anew k u t) where
@@ -22,8 +21,3 @@ module _ (k j : ℕ) (w : Sector) (s u t : ℕ → Sector) (few : 4 ≤ k) (l : 
     here = an.others (2 + j) (omega arith) ∙ wr.here;
     others = λ i g n. an.others i g ∙ wr.others i n;
   }
-
--- the same of a codeword that lay there: what lies there now is one too
-pub put_into : (j : ℕ) (w : Sector) (s : List Sector) (t c : ℕ → Sector) → Codeword (length s) c → Lies (length s) (held s) c → Put (length s) j w (held s) t
-    → Put (length s) j w c t
-put_into j w s t c cw lies p = record { codeword = p.codeword; here = p.here; others = λ i g n. p.others i g n ∙ held_is s c cw lies i }

@@ -49,8 +49,8 @@ anew s p q few is_p is_q h =
     )
 
 -- the codeword that lies there is what's held
-pub held_is : (s : List Sector) (c : ℕ → Sector) → Codeword (length s) c → Lies (length s) (held s) c → (i : ℕ) → held s i ≡ c i
-held_is s c cw lies i = elim (cases_lt i (length s)) [
+pub held_is : (k : ℕ) (s : List Sector) (c : ℕ → Sector) → length s ≤ k → Codeword k c → Lies k (held s) c → (i : ℕ) → held s i ≡ c i
+held_is k s c few cw lies i = elim (cases_lt i k) [
   | inl lt ↦ lies i lt
-  | inr ge ↦ held_beyond s i ge ∙ sym (cw.beyond i ge)
+  | inr ge ↦ held_beyond s i (omega arith) ∙ sym (cw.beyond i ge)
 ]

@@ -1,14 +1,15 @@
 -- The laws of the shelf: what each asking of the disks, a cut and the power's return come to, in the words of specs/Durable.antt. Nothing above this file
 -- opens what the shelf says of a reading, a writing, a sync, a death or a return.
 -- Assumes nothing.
-use Rattle.std.proofs.Common.{◌≡◌, ℕ, ◌+◌, ◌<◌, ◌≤◌, Bool, true, false, not, ◌&&◌, ◌||◌, T, eqb, ◌⊎◌, List, [], ◌∷◌, ◌++◌, sym, refl, ap, ◌∙◌, subst, inl, inr, ⊎_elim, arith}
+use Rattle.std.proofs.Common.{◌≡◌, ℕ, ◌+◌, ◌<◌, ◌≤◌, Bool, true, false, true≢false, not, ◌&&◌, ◌||◌, T, eqb, ◌⊎◌, List, [], ◌∷◌, ◌++◌, Ok, Err, Result, MatchResult, sym, refl, ap, ◌∙◌, subst, inl, inr, ⊎_elim, arith}
 use mathlib.Core.List.{Memᴰ}
 use lib.Dec.{eqb_refl}
 use Rattle.std.proofs.lemmas.Bool.{cases_Bool, eqb-true, and_parts, lt-ltb}
 use Rattle.store.specs.Event.{Event, Died}
 use Rattle.store.specs.Shelf.{Shelf, weak, MayDie, died, Dies, none, one, at, shelf, counted, dark, Within, Reading, Writing, Syncing, Back, AtStart}
-use Rattle.store.specs.Durable.{found, Among, Shows, Settled, Steady, Employed, Nowhere, Here, fell, Deaths, Went, Heard, Wrote, Synced, Returned}
+use Rattle.store.specs.Durable.{Lives, found, Among, Shows, Settled, Steady, Employed, Nowhere, Here, fell, Deaths, Went, Heard, Wrote, Synced, Returned}
 use Rattle.store.specs.declared.Answer.{Answer}
+use Rattle.store.specs.declared.Gone.{Gone}
 use Rattle.store.specs.declared.Answer.TheVariants.{Fine, Dead, Dark}
 use Rattle.store.proofs.Truths.{T_true, true-T, and_left}
 use Rattle.store.proofs.Counting.{count_ext, count_none, one_more, same_if_spare}
@@ -233,6 +234,12 @@ pub write_dark : {x y : Shelf} {es fs : List Event} {d s : ℕ} {b : List ℕ} �
 write_dark (Writing.goes m y fs on w r) = refl
 write_dark (Writing.gone off) = refl
 
+pub write_wrote : {x y : Shelf} {es fs : List Event} {d s : ℕ} {b : List ℕ} (a : Answer) (r : Result Bool Gone) → Writing x es d s b a y fs → Lives a r → MatchResult r (λ lives. Wrote d s b lives y) (λ _. y.on ≡ false)
+write_wrote Fine r w e = rw e (write_fine w)
+write_wrote Dead r w e = rw e (write_dead w)
+write_wrote Dark (Ok lives) w e = absurd (true≢false e)
+write_wrote Dark (Err gone) w e = write_dark w
+
 -- ---- a sync
 
 pub sync_went : {x y : Shelf} {es fs : List Event} {a : Answer} → Syncing x es a y fs → Went 1 Nowhere x es y fs
@@ -251,6 +258,12 @@ sync_dark (Syncing.goes m y fs w r) = refl
 pub sync_never : {x y : Shelf} {es fs : List Event} → Syncing x es Dead y fs → ⊥
 sync_never h = elim h [ ]
 
+pub sync_synced : {x y : Shelf} {es fs : List Event} (a : Answer) (r : Result Bool Gone) → Syncing x es a y fs → Lives a r → MatchResult r (λ lives. Synced y) (λ _. y.on ≡ false)
+sync_synced Fine r w e = rw e (sync_fine w)
+sync_synced Dead r w e = absurd (sync_never w)
+sync_synced Dark (Ok lives) w e = absurd (true≢false e)
+sync_synced Dark (Err gone) w e = sync_dark w
+
 -- ---- a read
 
 pub read_went : {x y : Shelf} {es fs : List Event} {d s : ℕ} {b : List ℕ} {a : Answer} → Reading x es d s b a y fs → Went 1 Nowhere x es y fs
@@ -266,6 +279,12 @@ read_dead (Reading.dead b y fs on r l) = record { lit = dies_on r ∙ T_true on;
 
 pub read_dark : {x y : Shelf} {es fs : List Event} {d s : ℕ} {b : List ℕ} → Reading x es d s b Dark y fs → y.on ≡ false
 read_dark (Reading.goes b y fs r) = refl
+
+pub read_heard : {x y : Shelf} {es fs : List Event} {d s : ℕ} {b : List ℕ} (a : Answer) (r : Result Bool Gone) → Reading x es d s b a y fs → Lives a r → MatchResult r (λ lives. Heard d s b lives y) (λ _. y.on ≡ false)
+read_heard Fine r w e = rw e (read_fine w)
+read_heard Dead r w e = rw e (read_dead w)
+read_heard Dark (Ok lives) w e = absurd (true≢false e)
+read_heard Dark (Err gone) w e = read_dark w
 
 -- ---- the power comes back
 

@@ -1,8 +1,7 @@
 -- A stripe, read column by column, of which no three can be missing.
 -- Assumes nothing.
-use Rattle.std.proofs.Common.{◌≡◌, ℕ, ◌+◌, ◌*◌, ◌<◌, ◌≤◌, Bool, true, false, T, ◌≢◌, List, length, get_or, sym, refl, ap, ◌∙◌, subst, inl, inr, arith}
-use borrow.Rule.Slice.PartMut.{put_mid}
-use Rattle.field.specs.Stripe.{column}
+use Rattle.std.proofs.Common.{◌≡◌, ℕ, ◌+◌, ◌<◌, ◌≤◌, Bool, true, false, T, ◌≢◌, List, length, get_or, set, sym, refl, ap, ◌∙◌, subst, inl, inr, arith}
+use Rattle.field.specs.Stripe.{held}
 use Rattle.field.specs.Missing.{and_also, Known, Mends}
 use Rattle.field.specs.declared.missing.Missing.{Missing}
 use Rattle.field.specs.declared.missing.Missing.TheVariants.{Nothing, One, Two}
@@ -60,41 +59,41 @@ module _ (ds : List ℕ) (k : Roster ds) where
 
 -- ---- one more column
 
-pub loading_none : (ds : List ℕ) (s r : ℕ) (t : List ℕ) (x : Shelf) (es : List Event) → Loading 0 Nothing ds s r t x es x es
+pub loading_none : (ds : List ℕ) (s r : ℕ) (t : List (List ℕ)) (x : Shelf) (es : List Event) → Loading 0 Nothing ds s r t x es x es
 loading_none ds s r t x es = record { went = went_none Nowhere x es; lit = λ on. on; known = λ e l. absurd (omega arith) }
 
-module _ {n : ℕ} {m : Missing} {ds : List ℕ} {s r : ℕ} {t : List ℕ} {x y z : Shelf} {es fs gs : List Event} (k : ℕ) (ys : List ℕ) (lt : 64 * n + 64 ≤ length t) (ly : length ys ≡ 64) (ek : k ≡ 64)
+module _ {n : ℕ} {m : Missing} {ds : List ℕ} {s r : ℕ} {t : List (List ℕ)} {x y z : Shelf} {es fs gs : List Event} (ys : List ℕ) (lt : n < length t)
     (p : Loading n m ds s r t x es y fs) (w : Went 1 Nowhere y fs z gs) where
-  There : List ℕ → ℕ → Type 0
-  There u e = T (x.alive (disk_of ds r e)) × (column e u ≡ x.shown (disk_of ds r e) s)
+  There : List (List ℕ) → ℕ → Type 0
+  There u e = T (x.alive (disk_of ds r e)) × (held u e ≡ x.shown (disk_of ds r e) s)
 
   Lost : Shelf → ℕ → Type 0
   Lost v e = v.alive (disk_of ds r e) ≡ false
 
-  still : (e : ℕ) → e < n → There t e → There (put_mid (64 * n) k t ys) e
+  still : (e : ℕ) → e < n → There t e → There (set t n ys) e
   unfolding There
-  still e h a = (a.0, (written n k t ys lt ly ek ys refl).others e (λ q. omega arith) ∙ a.1)
+  still e h a = (a.0, (written n ys t lt).others e (λ q. omega arith) ∙ a.1)
 
-  pub loading_alive : Answered (disk_of ds r n) s ys true y z → Loading (n + 1) m ds s r (put_mid (64 * n) k t ys) x es z gs
+  pub loading_alive : Answered (disk_of ds r n) s ys true y z → Loading (n + 1) m ds s r (set t n ys) x es z gs
   unfolding There Lost
   loading_alive a =
       record {
         went = went_then p.went w;
         lit = λ on. a.lit (p.lit on);
-        known = known_here n (There t) (Lost y) (There (put_mid (64 * n) k t ys)) (Lost z) still (λ e h. dead_stays w (disk_of ds r e) h) m (
+        known = known_here n (There t) (Lost y) (There (set t n ys)) (Lost z) still (λ e h. dead_stays w (disk_of ds r e) h) m (
           p.went.deaths.falls (disk_of ds r n) (w.deaths.falls (disk_of ds r n) (true-T a.alive)),
-          (written n k t ys lt ly ek ys refl).here ∙ (a.shows tt ∙ (w.stays (disk_of ds r n) s (λ b v. v) ∙ p.went.stays (disk_of ds r n) s (λ b v. v))),
+          (written n ys t lt).here ∙ (a.shows tt ∙ (w.stays (disk_of ds r n) s (λ b v. v) ∙ p.went.stays (disk_of ds r n) s (λ b v. v))),
         ) p.known;
       }
 
   pub loading_dead : (lives : Bool) → lives ≡ false → Answered (disk_of ds r n) s ys lives y z → ((a b : ℕ) → a < b → b < n → z.alive (disk_of ds r a) ≡ false → z.alive (disk_of ds r b) ≡ false → z.alive (disk_of ds r n) ≡ false → ⊥) →
-      Loading (n + 1) (and_also m n) ds s r (put_mid (64 * n) k t ys) x es z gs
+      Loading (n + 1) (and_also m n) ds s r (set t n ys) x es z gs
   unfolding There Lost
   loading_dead lives o a third =
       record {
         went = went_then p.went w;
         lit = λ on. a.lit (p.lit on);
-        known = known_missing n (There t) (Lost y) (There (put_mid (64 * n) k t ys)) (Lost z) still (λ e h. dead_stays w (disk_of ds r e) h) m (a.alive ∙ o) (λ i j ij jn di dj. third i j ij jn di dj (a.alive ∙ o)) p.known;
+        known = known_missing n (There t) (Lost y) (There (set t n ys)) (Lost z) still (λ e h. dead_stays w (disk_of ds r e) h) m (a.alive ∙ o) (λ i j ij jn di dj. third i j ij jn di dj (a.alive ∙ o)) p.known;
       }
 
 -- ---- all were asked for, and what was missing is mended
@@ -104,18 +103,18 @@ each_known k Nothing P D h = tt
 each_known k (One a) P D h = (h.0, h.1)
 each_known k (Two a b) P D h = ((omega (arith, h.0, h.1), h.2), (h.1, h.3))
 
-pub loaded : {m : Missing} {ds : List ℕ} {s r : ℕ} {t u : List ℕ} {x y : Shelf} {es fs : List Event} → Roster ds → Loading (length ds) m ds s r t x es y fs → Mends (length ds) m t u → Loaded m ds s r u x y
+pub loaded : {m : Missing} {ds : List ℕ} {s r : ℕ} {t u : List (List ℕ)} {x y : Shelf} {es fs : List Event} → Roster ds → Loading (length ds) m ds s r t x es y fs → Mends (length ds) m (held t) (held u) → Loaded m ds s r u x y
 loaded {m} {ds} {s} {r} {t} {u} {x} {y} few p f =
     record {
       lit = p.lit;
       dead = each_known (length ds) m _ _ p.known;
       whole = λ c w h.
           f c w
-          (known_weaker (length ds) m (λ e. T (x.alive (disk_of ds r e)) × (column e t ≡ x.shown (disk_of ds r e) s)) (λ e. column e t ≡ c e) (λ e. y.alive (disk_of ds r e) ≡ false) (λ _. Unit {0})
+          (known_weaker (length ds) m (λ e. T (x.alive (disk_of ds r e)) × (held t e ≡ x.shown (disk_of ds r e) s)) (λ e. held t e ≡ c e) (λ e. y.alive (disk_of ds r e) ≡ false) (λ _. Unit {0})
           (λ e b q. q.1 ∙ (h (place e r) (place_within (length ds) e r few.least b) q.0 ∙ ap c (index-place e r))) (λ e _. tt) p.known);
     }
 
-pub loading_is : {ds : List ℕ} {m : Missing} {s r i n : ℕ} {t : List ℕ} {x y : Shelf} {es fs : List Event} → i ≡ n → Loading i m ds s r t x es y fs → Loading n m ds s r t x es y fs
+pub loading_is : {ds : List ℕ} {m : Missing} {s r i n : ℕ} {t : List (List ℕ)} {x y : Shelf} {es fs : List Event} → i ≡ n → Loading i m ds s r t x es y fs → Loading n m ds s r t x es y fs
 loading_is {ds} {m} {s} {r} {t = t} {x} {y} {es} {fs} e p = subst (λ (z : ℕ). Loading z m ds s r t x es y fs) e p
 
 -- ---- one column
@@ -134,7 +133,7 @@ read_one {ds = ds} {s} {r} {i} lives few h o w a =
           (l (place i r) (place_within (length ds) i r few.least h) (w.deaths.falls (disk_of ds r i) (true-T (a.alive ∙ o))) ∙ ap c (index-place i r)));
     }
 
-pub read_all : {n : ℕ} {m : Missing} {ds : List ℕ} {s r i : ℕ} {b t : List ℕ} {x y z : Shelf} {es fs : List Event} (d : ℕ) (v : List ℕ) (lives : Bool) → i < length ds → b ≡ column i t → Went n Nowhere x es y fs → Answered d s v lives x y →
+pub read_all : {n : ℕ} {m : Missing} {ds : List ℕ} {s r i : ℕ} {b : List ℕ} {t : List (List ℕ)} {x y z : Shelf} {es fs : List Event} (d : ℕ) (v : List ℕ) (lives : Bool) → i < length ds → b ≡ held t i → Went n Nowhere x es y fs → Answered d s v lives x y →
     Loaded m ds s r t y z → Read m ds s r i b x z
 read_all {ds = ds} {s} {r} {i} d v lives h e w a p =
     record { lit = λ on. p.lit (a.lit on); dead = p.dead; column_is = λ c k l. e ∙ p.whole c k (shown_went w ds s r c l) i h }

@@ -1,6 +1,6 @@
 -- What a turn does for a tag, against what is seen: a read, a write, a flush, a size, and the power going meanwhile.
 -- Assumes nothing.
-use Rattle.std.proofs.Common.{◌≡◌, ℕ, ◌+◌, ◌-◌, ◌*◌, ◌<◌, ◌≤◌, true, false, cond, ◌&&◌, T, eqb, List, [], ◌∷◌, length, take, drop, Some, None, Option, sym, refl, ap, ◌∙◌, subst, inl, inr, arith, length-drop, length-take-le}
+use Rattle.std.proofs.Common.{◌≡◌, ℕ, ◌+◌, ◌-◌, ◌*◌, ◌/◌, ◌<◌, ◌≤◌, true, false, cond, ◌&&◌, T, eqb, List, [], ◌∷◌, length, take, drop, Some, None, Option, sym, refl, ap, ◌∙◌, subst, inl, inr, arith, length-drop, length-take-le}
 use lib.Dec.{eqb_refl}
 use borrow.Rule.Slice.PartMut.{put_mid}
 use Rattle.std.proofs.lemmas.Slice.{between_is, take-put_mid_below}
@@ -249,7 +249,12 @@ tags_kept m room ys h t l =
     (between_is (put_mid 512 m room ys) (64 * t) (64 * t + 64) ∙ (ap (drop (64 * t)) below ∙ sym (between_is room (64 * t) (64 * t + 64))))
 
 -- the part of the room behind them that a stripe of k columns has
-pub stripe_room : (k m : ℕ) (room : List ℕ) → k ≡ m → m ≤ 12 → length room ≡ 65536 → length (take (512 + 64 * k - 512) (drop 512 room)) ≡ 64 * m
+stripe_room : (k m : ℕ) (room : List ℕ) → k ≡ m → m ≤ 12 → length room ≡ 65536 → length (take (512 + 64 * k - 512) (drop 512 room)) ≡ 64 * m
 stripe_room k m room e l r =
     let e' : 512 + 64 * k - 512 ≡ 64 * m = omega arith in
     ap (λ (n : ℕ). length (take n (drop 512 room))) e' ∙ length-take-le (64 * m) (drop 512 room) (let d : length (drop 512 room) ≡ 65024 = length-drop 512 room ∙ (omega arith) in omega arith)
+
+-- and the columns that it is
+pub chunk_room : (k m : ℕ) (room : List ℕ) (columns : List (List ℕ)) → k ≡ m → m ≤ 12 → length room ≡ 65536
+    → length columns ≡ length (take (512 + 64 * k - 512) (drop 512 room)) / 64 → length columns ≡ m
+chunk_room k m room columns e l r c = let n = stripe_room k m room e l r in omega (arith, n)

@@ -4,7 +4,7 @@ use Rattle.std.proofs.Common.{◌≡◌, ℕ, zero, suc, ◌+◌, ◌-◌, ◌*�
 use Rattle.std.proofs.lemmas.Bool.{cases_Bool, cases_eq, eq-eqb, ne_eqb, cond-true, cond-false, cond_both}
 use Rattle.field.specs.Stripe.{held, Codeword, Lies, Put}
 use Rattle.field.specs.declared.missing.Missing.{Missing}
-use Rattle.field.proofs.Putting.{held_is}
+use Rattle.field.proofs.Slices.{held_is}
 use Rattle.layout.specs.Places.{place, column_of, stripe_of}
 use Rattle.layout.specs.Super.{Super}
 use Rattle.layout.specs.declared.members.Marks.{Marks}
@@ -95,15 +95,15 @@ changes r h c =
     }
 
 module _ (n k s r j : ℕ) (some : 64 < n) (size : s < (k - 2) * (n - 64)) (er : r ≡ stripe_of (n - 64) s) (ej : j ≡ column_of (n - 64) s)
-    (t u words : List ℕ) (c : Columns) (coded : Coded k c) (lies : Lies k t (c r)) (put : Put k j words (held k t) (held k u)) where
+    (t u : List (List ℕ)) (words : List ℕ) (c : Columns) (long : length t ≤ k) (coded : Coded k c) (lies : Lies k (held t) (c r)) (put : Put k j words (held t) (held u)) where
   -- what was loaded is the stripe
-  was : (i : ℕ) → held k t i ≡ c r i
-  was i = held_is k t (c r) (coded r) lies i
+  was : (i : ℕ) → held t i ≡ c r i
+  was i = held_is k t (c r) long (coded r) lies i
 
-  pub unchanged : (i : ℕ) → 2 ≤ i → i ≢ 2 + j → instead r (held k u) c r i ≡ c r i
-  unchanged i two other = (changes r (held k u) c).this i ∙ (put.others i two other ∙ was i)
+  pub unchanged : (i : ℕ) → 2 ≤ i → i ≢ 2 + j → instead r (held u) c r i ≡ c r i
+  unchanged i two other = (changes r (held u) c).this i ∙ (put.others i two other ∙ was i)
 
-  elsewhere : (i : ℕ) → i ≢ s → sector_of n i (instead r (held k u) c) ≡ sector_of n i c
+  elsewhere : (i : ℕ) → i ≢ s → sector_of n i (instead r (held u) c) ≡ sector_of n i c
   elsewhere i ne =
       let q = stripe_of (n - 64) i in
       let p = 2 + column_of (n - 64) i in
@@ -111,52 +111,52 @@ module _ (n k s r j : ℕ) (some : 64 < n) (size : s < (k - 2) * (n - 64)) (er :
         | inl e ↦
             let apart : p ≢ 2 + j = λ z.
             ne (home_apart (n - 64) (omega arith) i s (e ∙ er) (ap (λ (a : ℕ). place p a) (e ∙ er) ∙ ap (λ (a : ℕ). place a (stripe_of (n - 64) s)) (z ∙ ap (λ (a : ℕ). 2 + a) ej))) in
-            ap (λ (a : ℕ). instead r (held k u) c a p) e ∙ (unchanged p (omega arith) apart ∙ ap (λ (a : ℕ). c a p) (sym e))
-        | inr o ↦ (changes r (held k u) c).others q p o
+            ap (λ (a : ℕ). instead r (held u) c a p) e ∙ (unchanged p (omega arith) apart ∙ ap (λ (a : ℕ). c a p) (sym e))
+        | inr o ↦ (changes r (held u) c).others q p o
       ]
 
-  pub rewrites : Rewrites n s words k c (instead r (held k u) c)
+  pub rewrites : Rewrites n s words k c (instead r (held u) c)
   rewrites =
       record {
-        code = λ a. cond_both (eqb a r) (held k u) (c a) (λ (f : ℕ → List ℕ). Codeword k f) (λ _. put.codeword) (λ _. coded a);
-        this = sym (is_sector n k s r j some size er ej (instead r (held k u) c)) ∙ ((changes r (held k u) c).this (2 + j) ∙ put.here);
+        code = λ a. cond_both (eqb a r) (held u) (c a) (λ (f : ℕ → List ℕ). Codeword k f) (λ _. put.codeword) (λ _. coded a);
+        this = sym (is_sector n k s r j some size er ej (instead r (held u) c)) ∙ ((changes r (held u) c).this (2 + j) ∙ put.here);
         others = elsewhere;
       }
 
 -- from the load to the end
-module _ (S : Super) (n s r j : ℕ) (t u words : List ℕ) {m : Missing} {x y : Shelf} {es fs : List Event} (some : 64 < n) (size : s < (length S.members - 2) * (n - 64)) (er : r ≡ stripe_of (n - 64) s) (ej : j ≡ column_of (n - 64) s)
-    (few : length S.members ≤ 12) (same : n ≡ x.sectors) (w : Went (length S.members) Nowhere x es y fs) (p : Loaded m S.members (64 + r) r t x y) (put : Put (length S.members) j words (held (length S.members) t) (held (length S.members) u)) where
+module _ (S : Super) (n s r j : ℕ) (t u : List (List ℕ)) (words : List ℕ) {m : Missing} {x y : Shelf} {es fs : List Event} (some : 64 < n) (size : s < (length S.members - 2) * (n - 64)) (er : r ≡ stripe_of (n - 64) s) (ej : j ≡ column_of (n - 64) s)
+    (few : length S.members ≤ 12) (same : n ≡ x.sectors) (long : length t ≤ length S.members) (w : Went (length S.members) Nowhere x es y fs) (p : Loaded m S.members (64 + r) r t x y) (put : Put (length S.members) j words (held t) (held u)) where
   abbrev k : ℕ
   k = length S.members
 
   abbrev pub next : Columns → Columns
-  next c = instead r (held k u) c
+  next c = instead r (held u) c
 
   inside : 64 + r < x.sectors
   inside = omega (arith, at_stripe n k s r j some size er ej, same)
 
   pub rewritten : (c : Columns) → Ready x S c → Coded k c → Rewrites n s words k c (next c)
-  rewritten c a b = rewrites n k s r j some size er ej t u words c b (p.whole (c r) (b r) (shown_ready r a inside)) put
+  rewritten c a b = rewrites n k s r j some size er ej t u words c long b (p.whole (c r) (b r) (shown_ready r a inside)) put
 
   rest_same : (c : Columns) → Ready x S c → Coded k c → (i : ℕ) → chosen (touching j) i ≡ false → next c r i ≡ c r i
   rest_same c a b i o =
       let q = untouched j i (omega (arith, at_column n k s r j some size er ej, few)) o in
-      unchanged n k s r j some size er ej t u words c b (p.whole (c r) (b r) (shown_ready r a inside)) put i q.0 q.1
+      unchanged n k s r j some size er ej t u words c long b (p.whole (c r) (b r) (shown_ready r a inside)) put i q.0 q.1
 
   abbrev stripe_is : journalling S r ≡ journalling S (stripe_of (n - 64) s)
   stripe_is = ap (λ (z : ℕ). journalling S z) er
 
-  pub unsaved_journal : {z : Shelf} → Unjournalled S r (held k u) y z → Unsaved n s words S x z
+  pub unsaved_journal : {z : Shelf} → Unjournalled S r (held u) y z → Unsaved n s words S x z
   unsaved_journal {z} q =
       record {
         off = q.off;
         left = λ c a b.
-            inr (next c, (subst (λ (Q : Super). Left z S c Q (next c)) stripe_is (q.left c (next c) (ready_asked w S c a) (changes r (held k u) c)), rewritten c a b));
+            inr (next c, (subst (λ (Q : Super). Left z S c Q (next c)) stripe_is (q.left c (next c) (ready_asked w S c a) (changes r (held u) c)), rewritten c a b));
       }
 
-  module _ {z : Shelf} (q : Journalled S r (held k u) y z) (S' : Super) (e : S' ≡ journalling S r) where
+  module _ {z : Shelf} (q : Journalled S r (held u) y z) (S' : Super) (e : S' ≡ journalling S r) where
     pub sound_journalled : (c : Columns) → Ready x S c → Sound z S' (next c)
-    sound_journalled c a = subst (λ (Q : Super). Sound z Q (next c)) (sym e) (q.sound c (next c) (ready_asked w S c a) (changes r (held k u) c))
+    sound_journalled c a = subst (λ (Q : Super). Sound z Q (next c)) (sym e) (q.sound c (next c) (ready_asked w S c a) (changes r (held u) c))
 
     pub unsaved_place : {v : Shelf} → Unplaced S' z v → Unsaved n s words S x v
     unsaved_place {v} o =
@@ -166,7 +166,7 @@ module _ (S : Super) (n s r j : ℕ) (t u words : List ℕ) {m : Missing} {x y :
               inr (next c, (inr (inr (subst (λ (Q : Super). Sound v Q (next c)) (e ∙ stripe_is) (o.sound (next c) (sound_journalled c a)))), rewritten c a b));
         }
 
-    pub saved_place : {v : Shelf} → Placing (chosen (touching j)) S' r (held k u) z v → Saved n s words S x v
+    pub saved_place : {v : Shelf} → Placing (chosen (touching j)) S' r (held u) z v → Saved n s words S x v
     saved_place {v} o =
         record {
           lit = o.lit q.lit;
@@ -174,7 +174,7 @@ module _ (S : Super) (n s r j : ℕ) (t u words : List ℕ) {m : Missing} {x y :
             next c,
             (
               subst (λ (Q : Super). Ready v Q (next c)) (e ∙ stripe_is)
-                  (o.ready c (next c) (sound_journalled c a) (subst (λ (Q : Super). InPlace z Q c) (sym e) (q.places c (ready_asked w S c a))) (changes r (held k u) c).this (rest_same c a b)),
+                  (o.ready c (next c) (sound_journalled c a) (subst (λ (Q : Super). InPlace z Q c) (sym e) (q.places c (ready_asked w S c a))) (changes r (held u) c).this (rest_same c a b)),
               rewritten c a b,
             ),
           );

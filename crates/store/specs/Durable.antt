@@ -1,10 +1,19 @@
 -- What is known of the disks from one moment to a later one, however many of them die: what they show, what a cut may leave, what was seen.
 -- Everything above the disks speaks of them in these words alone.
 -- Assumes nothing.
-use Rattle.std.specs.Prelude.{◌≡◌, ℕ, ◌+◌, ◌<◌, ◌≤◌, Bool, true, false, T, ◌⊎◌, List, [], ◌∷◌}
+use Rattle.std.specs.Prelude.{◌≡◌, ℕ, ◌+◌, ◌<◌, ◌≤◌, Bool, true, false, T, ◌⊎◌, List, [], ◌∷◌, Ok, Result, is_ok}
 use mathlib.Core.List.{Memᴰ}
+use Rattle.store.specs.declared.Answer.{Answer}
+use Rattle.store.specs.declared.Answer.TheVariants.{Fine, Dead, Dark}
+use Rattle.store.specs.declared.Gone.{Gone}
 use Rattle.store.specs.Event.{Event, Died}
 use Rattle.store.specs.Shelf.{Shelf, weak}
+
+-- what a disk's answer is to who asked: it lives, it is dead, or the power has gone
+abbrev pub Lives : Answer → Result Bool Gone → Type 0
+Lives Fine r = r ≡ Ok true
+Lives Dead r = r ≡ Ok false
+Lives Dark r = is_ok r ≡ false
 
 -- all that a read may give at s of d, now or after a cut
 abbrev pub found : Shelf → ℕ → ℕ → List (List ℕ)

@@ -1,7 +1,7 @@
 -- A stripe on the members of a store: loaded from any sector, read in part, and written, all columns or some.
 -- Assumes nothing.
 use Rattle.std.specs.Prelude.{◌≡◌, ℕ, ◌<◌, Bool, true, false, T, List, length, Some, None, Option, slice_index, slice_index_or}
-use Rattle.field.specs.Stripe.{column, Codeword, Lies}
+use Rattle.field.specs.Stripe.{held, Codeword, Lies}
 use Rattle.field.specs.Missing.{Known}
 use Rattle.field.specs.declared.missing.Missing.{Missing}
 use Rattle.field.specs.declared.missing.Missing.TheVariants.{Nothing, One, Two}
@@ -44,16 +44,16 @@ Each (One a) P = P a
 Each (Two a b) P = P a × P b
 
 -- the first n columns were asked for: those that were read are there, the others are on dead disks
-pub record Loading (n : ℕ) (m : Missing) (ds : List ℕ) (s r : ℕ) (stripe : List ℕ) (x : Shelf) (es : List Event) (y : Shelf) (fs : List Event) : Type 0 where
+pub record Loading (n : ℕ) (m : Missing) (ds : List ℕ) (s r : ℕ) (stripe : List (List ℕ)) (x : Shelf) (es : List Event) (y : Shelf) (fs : List Event) : Type 0 where
   pub went : Went n Nowhere x es y fs
   pub lit : x.on ≡ true → y.on ≡ true
-  pub known : Known n m (λ e. T (x.alive (disk_of ds r e)) × (column e stripe ≡ x.shown (disk_of ds r e) s)) (λ e. y.alive (disk_of ds r e) ≡ false)
+  pub known : Known n m (λ e. T (x.alive (disk_of ds r e)) × (held stripe e ≡ x.shown (disk_of ds r e) s)) (λ e. y.alive (disk_of ds r e) ≡ false)
 
 -- All columns of whatever codeword the members show are there, whichever two are dead; each member was asked at most once.
-pub record Loaded (m : Missing) (ds : List ℕ) (s r : ℕ) (stripe : List ℕ) (x y : Shelf) : Type 0 where
+pub record Loaded (m : Missing) (ds : List ℕ) (s r : ℕ) (stripe : List (List ℕ)) (x y : Shelf) : Type 0 where
   pub lit : x.on ≡ true → y.on ≡ true
   pub dead : Each m (λ i. (i < length ds) × (y.alive (disk_of ds r i) ≡ false))
-  pub whole : (c : ℕ → List ℕ) → Codeword (length ds) c → Shown x ds s r c → Lies (length ds) stripe c
+  pub whole : (c : ℕ → List ℕ) → Codeword (length ds) c → Shown x ds s r c → Lies (length ds) (held stripe) c
 
 -- column i of whatever codeword the members show
 pub record Read (m : Missing) (ds : List ℕ) (s r i : ℕ) (words : List ℕ) (x y : Shelf) : Type 0 where

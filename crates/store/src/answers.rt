@@ -2,38 +2,42 @@
 //
 // Only this module calls the disks. What it promises is in the words of specs/Durable: `went` says what holds either way (how many
 // asks, what may have been written, that only deaths were seen), `how` what came of it.
-ghost use Rattle.std.specs.Prelude.{◌≡◌, ◌<◌, false, length, MatchResult};
+ghost use Rattle.std.specs.Prelude.{◌≡◌, ◌<◌, false, MatchResult};
 ghost use Rattle.store.specs.Shelf.{MayAsk, MayWrite};
-ghost use Rattle.store.specs.Durable.{Went, Nowhere, Here, Heard, Wrote, Synced};
+ghost use Rattle.store.specs.Durable.{Lives, Went, Nowhere, Here, Heard, Wrote, Synced};
 
 use crate::{Answer, Disks, Gone};
+use field::Sector;
 
-// Sector s of disk `at`, and whether the disk lives: if it does, `into` has what it shows.
-pub fn read_sector<D: Disks>(d: &mut D, at: u32, s: u64, into: &mut [u64]) -> Result<bool, Gone>
-    requires may { MayAsk (D.shelf d.old) at s }
-    requires lent { length into.old ≡ 64 }
-    ensures went { Went 1 Nowhere (D.shelf d.old) (D.seen d.old) (D.shelf d.new) (D.seen d.new) }
-    ensures how { MatchResult result (λ lives. Heard at s into.new lives (D.shelf d.new)) (λ _. (D.shelf d.new).on ≡ false) }
-{
-    match d.read(at, s, into) {
-        Answer::Fine => Ok(true),
-        Answer::Dead => Ok(false),
-        Answer::Dark => Err(Gone),
+impl Answer {
+    // Whether the disk lives; that the power has gone is an error.
+    fn lives(self) -> Result<bool, Gone>
+        ensures { Lives self result }
+    {
+        match self {
+            Answer::Fine => Ok(true),
+            Answer::Dead => Ok(false),
+            Answer::Dark => Err(Gone),
+        }
     }
 }
 
+// Sector s of disk `at`, and whether the disk lives: if it does, `into` has what it shows.
+pub fn read_sector<D: Disks>(d: &mut D, at: u32, s: u64, into: &mut Sector) -> Result<bool, Gone>
+    requires { MayAsk (D.shelf d.old) at s }
+    ensures went { Went 1 Nowhere (D.shelf d.old) (D.seen d.old) (D.shelf d.new) (D.seen d.new) }
+    ensures how { MatchResult result (λ lives. Heard at s into.new lives (D.shelf d.new)) (λ _. (D.shelf d.new).on ≡ false) }
+{
+    d.read(at, s, into).lives()
+}
+
 // These words to sector s of disk `at`, and whether the disk lives: if it does, it shows them.
-pub fn write_sector<D: Disks>(d: &mut D, at: u32, s: u64, words: &[u64]) -> Result<bool, Gone>
-    requires may { MayWrite (D.shelf d.old) at s }
-    requires lent { length words.now ≡ 64 }
+pub fn write_sector<D: Disks>(d: &mut D, at: u32, s: u64, words: &Sector) -> Result<bool, Gone>
+    requires { MayWrite (D.shelf d.old) at s }
     ensures went { Went 1 (Here at s words.now) (D.shelf d.old) (D.seen d.old) (D.shelf d.new) (D.seen d.new) }
     ensures how { MatchResult result (λ lives. Wrote at s words.now lives (D.shelf d.new)) (λ _. (D.shelf d.new).on ≡ false) }
 {
-    match d.write(at, s, words) {
-        Answer::Fine => Ok(true),
-        Answer::Dead => Ok(false),
-        Answer::Dark => Err(Gone),
-    }
+    d.write(at, s, words).lives()
 }
 
 // All that is shown lasts.
@@ -42,9 +46,6 @@ pub fn sync_all<D: Disks>(d: &mut D) -> Result<(), Gone>
     ensures went { Went 1 Nowhere (D.shelf d.old) (D.seen d.old) (D.shelf d.new) (D.seen d.new) }
     ensures how { MatchResult result (λ _. Synced (D.shelf d.new)) (λ _. (D.shelf d.new).on ≡ false) }
 {
-    match d.sync() {
-        Answer::Fine => Ok(()),
-        Answer::Dead => Ok(()),
-        Answer::Dark => Err(Gone),
-    }
+    let _ = d.sync().lives()?;
+    Ok(())
 }

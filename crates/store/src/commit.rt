@@ -7,15 +7,16 @@ ghost use Rattle.store.specs.Commits.{Heading, Headed, Copying, Committed, Inter
 
 use crate::answers::{sync_all, write_sector};
 use crate::{Disks, Gone};
+use field::Sector;
 use layout::Superblock;
 
 // The words of a superblock to the members at its places 0, 1 and 2.
-fn write_copies<D: Disks>(d: &mut D, next: &Superblock, words: &[u64]) -> Result<(), Gone>
+fn write_copies<D: Disks>(d: &mut D, next: &Superblock, words: &Sector) -> Result<(), Gone>
     requires left { 3 ≤ (D.shelf d.old).left }
     requires size { 0 < (D.shelf d.old).sectors }
     requires proper { Proper (says next.now) }
     requires employed { (p : ℕ) → p < 3 → Employed (D.shelf d.old) (slice_index (says next.now).members p) }
-    requires lent { (length words.now ≡ 64) × (super_of words.now ≡ says next.now) }
+    requires lent { super_of words.now ≡ says next.now }
     ensures went { Went 3 (Heading (says next.now)) (D.shelf d.old) (D.seen d.old) (D.shelf d.new) (D.seen d.new) }
     ensures how { MatchResult result (λ _. Copying 3 (says next.now) words.now (D.shelf d.old) (D.seen d.old) (D.shelf d.new) (D.seen d.new)) (λ _. (D.shelf d.new).on ≡ false) }
 {
@@ -26,12 +27,11 @@ fn write_copies<D: Disks>(d: &mut D, next: &Superblock, words: &[u64]) -> Result
 }
 
 // A superblock to its three members, for good. The words are made in `words`.
-pub fn head<D: Disks>(d: &mut D, next: &Superblock, words: &mut [u64]) -> Result<(), Gone>
+pub fn head<D: Disks>(d: &mut D, next: &Superblock, words: &mut Sector) -> Result<(), Gone>
     requires left { 4 ≤ (D.shelf d.old).left }
     requires size { 0 < (D.shelf d.old).sectors }
     requires proper { Proper (says next.now) }
     requires employed { (p : ℕ) → p < 3 → Employed (D.shelf d.old) (slice_index (says next.now).members p) }
-    requires lent { length words.old ≡ 64 }
     ensures went { Went 4 (Heading (says next.now)) (D.shelf d.old) (D.seen d.old) (D.shelf d.new) (D.seen d.new) }
     ensures how { MatchResult result (λ _. Headed (says next.now) (D.shelf d.new)) (λ _. (D.shelf d.new).on ≡ false) }
 {
@@ -41,12 +41,11 @@ pub fn head<D: Disks>(d: &mut D, next: &Superblock, words: &mut [u64]) -> Result
 }
 
 // What was staged lasts, and then the next superblock is in force.
-pub fn commit<D: Disks>(d: &mut D, next: &Superblock, words: &mut [u64]) -> Result<(), Gone>
+pub fn commit<D: Disks>(d: &mut D, next: &Superblock, words: &mut Sector) -> Result<(), Gone>
     requires left { 5 ≤ (D.shelf d.old).left }
     requires size { 0 < (D.shelf d.old).sectors }
     requires proper { Proper (says next.now) }
     requires employed { (p : ℕ) → p < 3 → Employed (D.shelf d.old) (slice_index (says next.now).members p) }
-    requires lent { length words.old ≡ 64 }
     ensures went { Went 5 (Heading (says next.now)) (D.shelf d.old) (D.seen d.old) (D.shelf d.new) (D.seen d.new) }
     ensures how { MatchResult result (λ _. Committed (says next.now) (D.shelf d.old) (D.shelf d.new)) (λ _. Interrupted (says next.now) (D.shelf d.old) (D.shelf d.new)) }
 {

@@ -8,6 +8,7 @@ ghost use Rattle.store.specs.Recovers.{Only, Level, Moved, Moving, Across, Broug
 
 use crate::answers::{read_sector, write_sector};
 use crate::{Disks, Gone};
+use field::Sector;
 use layout::{Members, Superblock};
 
 // The slot of a generation.
@@ -18,11 +19,10 @@ pub fn slot_of(generation: u64) -> u64
 }
 
 // What a disk has at one sector, to another; nothing is done where it is dead.
-fn carry<D: Disks>(d: &mut D, at: u32, from: u64, to: u64, words: &mut [u64]) -> Result<(), Gone>
+fn carry<D: Disks>(d: &mut D, at: u32, from: u64, to: u64, words: &mut Sector) -> Result<(), Gone>
     requires left { 2 ≤ (D.shelf d.old).left }
     requires place { (from < (D.shelf d.old).sectors) × (to < (D.shelf d.old).sectors) }
     requires employed { Employed (D.shelf d.old) at }
-    requires lent { length words.old ≡ 64 }
     ensures went { Went 2 (Only at to) (D.shelf d.old) (D.seen d.old) (D.shelf d.new) (D.seen d.new) }
     ensures how { MatchResult result (λ _. ((D.shelf d.new).on ≡ true) × Moved at from to (D.shelf d.old) (D.shelf d.new)) (λ _. (D.shelf d.new).on ≡ false) }
 {
@@ -38,12 +38,11 @@ fn carry_all<D: Disks>(
     members: &Members,
     from: u64,
     to: u64,
-    words: &mut [u64],
+    words: &mut Sector,
 ) -> Result<(), Gone>
     requires left { 24 ≤ (D.shelf d.old).left }
     requires place { (from < (D.shelf d.old).sectors) × ((to < (D.shelf d.old).sectors) × ((from ≢ to))) }
     requires employed { (p : ℕ) → p < length members.now.list → Employed (D.shelf d.old) (slice_index members.now.list p) }
-    requires lent { length words.old ≡ 64 }
     ensures went { Went 24 (Level to) (D.shelf d.old) (D.seen d.old) (D.shelf d.new) (D.seen d.new) }
     ensures how { MatchResult result (λ _. Moving (length members.now.list) members.now.list from to (D.shelf d.old) (D.seen d.old) (D.shelf d.new) (D.seen d.new)) (λ _. (D.shelf d.new).on ≡ false) }
 {
@@ -54,11 +53,10 @@ fn carry_all<D: Disks>(
 }
 
 // The journalled stripe to its place, on all that hold it, also on the disk that is being filled.
-pub fn bring<D: Disks>(d: &mut D, b: &Superblock, words: &mut [u64]) -> Result<(), Gone>
+pub fn bring<D: Disks>(d: &mut D, b: &Superblock, words: &mut Sector) -> Result<(), Gone>
     requires left { 26 ≤ (D.shelf d.old).left }
     requires size { (128 ≤ (D.shelf d.old).sectors) × (((D.shelf d.old).sectors ≤ 4294967296) × (Inside (says b.now).journal (D.shelf d.old).sectors)) }
     requires employed { (e p r : ℕ) → Holds (says b.now) e p r → Employed (D.shelf d.old) e }
-    requires lent { length words.old ≡ 64 }
     ensures went { Went 26 (Across (says b.now)) (D.shelf d.old) (D.seen d.old) (D.shelf d.new) (D.seen d.new) }
     ensures how { MatchResult result (λ _. ((D.shelf d.old).on ≡ true → (D.shelf d.new).on ≡ true) × Brought (says b.now) (D.shelf d.old) (D.shelf d.new)) (λ _. (D.shelf d.new).on ≡ false) }
 {

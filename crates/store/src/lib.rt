@@ -143,8 +143,9 @@ pub fn open<D: Disks>(d: &mut D, room: &mut [u64]) -> Result<Store, Gone>
     ensures ticked { ticks (D.seen d.new) ≡ ticks (D.seen d.old) }
     ensures spent { (D.shelf d.old).left ≤ (D.shelf d.new).left + 46 }
 {
-    let mut best = [0u64; 64];
-    let superblock = come_up(d, &mut best, &mut room[0..64])?;
+    let mut best = [0; 64];
+    let mut other = [0; 64];
+    let superblock = come_up(d, &mut best, &mut other)?;
     Ok(Store {
         sectors: d.sectors(),
         superblock,

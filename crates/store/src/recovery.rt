@@ -10,23 +10,22 @@ use crate::answers::read_sector;
 use crate::commit::head;
 use crate::journal::bring;
 use crate::{Disks, Gone};
+use field::Sector;
 use layout::{Superblock, generation_of};
 
 // The newer of two sectors stays in `best`.
-fn keep_newer(best: &mut [u64], other: &[u64])
-    requires { (length best.old ≡ 64) × (length other.now ≡ 64) }
+fn keep_newer(best: &mut Sector, other: &Sector)
     ensures { best.new ≡ newer best.old other.now }
 {
     if generation_of(best) <= generation_of(other) {
-        best.copy_from_slice(other);
+        *best = *other;
     }
 }
 
 // The newest sector 0 of the sixteen disks, in `best`.
-fn look<D: Disks>(d: &mut D, best: &mut [u64], other: &mut [u64]) -> Result<(), Gone>
+fn look<D: Disks>(d: &mut D, best: &mut Sector, other: &mut Sector) -> Result<(), Gone>
     requires left { 16 ≤ (D.shelf d.old).left }
     requires size { 0 < (D.shelf d.old).sectors }
-    requires lent { (length best.old ≡ 64) × (length other.old ≡ 64) }
     ensures went { Went 16 Nowhere (D.shelf d.old) (D.seen d.old) (D.shelf d.new) (D.seen d.new) }
     ensures how { MatchResult result (λ _. Looked 16 best.new (D.shelf d.old) (D.seen d.old) (D.shelf d.new) (D.seen d.new)) (λ _. (D.shelf d.new).on ≡ false) }
 {
@@ -40,9 +39,8 @@ fn look<D: Disks>(d: &mut D, best: &mut [u64], other: &mut [u64]) -> Result<(), 
 }
 
 // It is found, and written again to its three members.
-fn recover<D: Disks>(d: &mut D, best: &mut [u64], other: &mut [u64]) -> Result<Superblock, Gone>
+fn recover<D: Disks>(d: &mut D, best: &mut Sector, other: &mut Sector) -> Result<Superblock, Gone>
     requires left { 20 ≤ (D.shelf d.old).left }
-    requires lent { (length best.old ≡ 64) × (length other.old ≡ 64) }
     requires held { Open (D.shelf d.old) }
     ensures deaths { Deaths (D.shelf d.old) (D.seen d.old) (D.shelf d.new) (D.seen d.new) }
     ensures spent { (D.shelf d.old).left ≤ (D.shelf d.new).left + 20 }
@@ -55,9 +53,8 @@ fn recover<D: Disks>(d: &mut D, best: &mut [u64], other: &mut [u64]) -> Result<S
 }
 
 // All that coming up does with the disks.
-pub fn come_up<D: Disks>(d: &mut D, best: &mut [u64], other: &mut [u64]) -> Result<Superblock, Gone>
+pub fn come_up<D: Disks>(d: &mut D, best: &mut Sector, other: &mut Sector) -> Result<Superblock, Gone>
     requires left { 46 ≤ (D.shelf d.old).left }
-    requires lent { (length best.old ≡ 64) × (length other.old ≡ 64) }
     requires held { Open (D.shelf d.old) }
     ensures deaths { Deaths (D.shelf d.old) (D.seen d.old) (D.shelf d.new) (D.seen d.new) }
     ensures spent { (D.shelf d.old).left ≤ (D.shelf d.new).left + 46 }

@@ -68,27 +68,21 @@ impl Store {
         let end = 512 + 64 * self.superblock.members.many();
         match a {
             Ask::Read(s) => {
-                read(
-                    d,
-                    &mut self.superblock,
-                    self.sectors,
-                    s,
-                    words,
-                    &mut room[512..end],
-                )?;
+                let mut sector = [0; 64];
+                let (columns, _) = room[512..end].as_chunks_mut::<64>();
+                let b = &mut self.superblock;
+                read(d, b, self.sectors, s, &mut sector, columns)?;
+                words.copy_from_slice(&sector);
                 Ok(Reply::Bytes)
             }
             Ask::Write(s) => {
                 let at = 64 * tag as usize;
-                words.copy_from_slice(&room[at..at + 64]);
-                write(
-                    d,
-                    &mut self.superblock,
-                    self.sectors,
-                    s,
-                    words,
-                    &mut room[512..end],
-                )?;
+                let mut sector = [0; 64];
+                sector.copy_from_slice(&room[at..at + 64]);
+                let (columns, _) = room[512..end].as_chunks_mut::<64>();
+                let b = &mut self.superblock;
+                write(d, b, self.sectors, s, &sector, columns)?;
+                words.copy_from_slice(&sector);
                 Ok(Reply::Done)
             }
             Ask::Flush => Ok(Reply::Done),

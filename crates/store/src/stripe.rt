@@ -2,7 +2,7 @@
 // gone on from, and up to two columns that are missing are had again from the others.
 //
 // It asks the disks of the members that it is given, at the one sector that it is given.
-ghost use Rattle.std.specs.Prelude.{◌≡◌, ℕ, ◌+◌, ◌*◌, ◌<◌, ◌≤◌, Bool, true, false, length, MatchResult, slice_index};
+ghost use Rattle.std.specs.Prelude.{◌≡◌, ℕ, ◌+◌, ◌<◌, ◌≤◌, Bool, true, false, length, MatchResult, slice_index};
 ghost use Rattle.field.specs.Stripe.{held};
 ghost use Rattle.layout.specs.Super.{says, Proper, Joins};
 ghost use Rattle.store.specs.Shelf.{count};
@@ -13,7 +13,7 @@ ghost use Rattle.store.specs.Stripes.{Serving, Answered, Loaded, Read, learned, 
 use crate::answers::{read_sector, write_sector};
 use crate::selection::Selection;
 use crate::{Disks, Gone};
-use field::{Missing, also, mend};
+use field::{Missing, Sector, mend};
 use layout::{Members, Superblock, index_of, place_of};
 
 // Sector s of the member at place p, and whether it lives; one that is known to be dead is not asked.
@@ -22,12 +22,11 @@ fn fetch<D: Disks>(
     members: &Members,
     p: usize,
     s: u64,
-    into: &mut [u64],
+    into: &mut Sector,
 ) -> Result<bool, Gone>
     requires left { 0 < (D.shelf d.old).left }
     requires place { (p < length members.now.list) × (s < (D.shelf d.old).sectors) }
     requires serving { Serving (D.shelf d.old) members.now.list members.now.dead }
-    requires lent { length into.old ≡ 64 }
     ensures went { Went 1 Nowhere (D.shelf d.old) (D.seen d.old) (D.shelf d.new) (D.seen d.new) }
     ensures how { MatchResult result (λ lives. Answered (slice_index members.now.list p) s into.new lives (D.shelf d.old) (D.shelf d.new)) (λ _. (D.shelf d.new).on ≡ false) }
 {
@@ -44,24 +43,22 @@ pub fn load<D: Disks>(
     members: &Members,
     s: u64,
     r: u64,
-    stripe: &mut [u64],
+    stripe: &mut [Sector],
 ) -> Result<Missing, Gone>
     requires left { length members.now.list ≤ (D.shelf d.old).left }
     requires size { s < (D.shelf d.old).sectors }
     requires serving { Serving (D.shelf d.old) members.now.list members.now.dead }
-    requires lent { length stripe.old ≡ 64 * length members.now.list }
+    requires lent { length stripe.old ≡ length members.now.list }
     ensures went { Went (length members.now.list) Nowhere (D.shelf d.old) (D.seen d.old) (D.shelf d.new) (D.seen d.new) }
     ensures how { MatchResult result (λ missing. Loaded missing members.now.list s r stripe.new (D.shelf d.old) (D.shelf d.new)) (λ _. (D.shelf d.new).on ≡ false) }
 {
-    let k = members.many();
     let mut missing = Missing::Nothing;
-    for i in 0..k {
-        let p = place_of(i, r);
-        if !fetch(d, members, p, s, &mut stripe[64 * i..64 * i + 64])? {
-            missing = also(missing, i);
+    for (i, column) in stripe.iter_mut().enumerate() {
+        if !fetch(d, members, place_of(i, r), s, column)? {
+            missing = missing.also(i);
         }
     }
-    let _ = mend(stripe, k, missing);
+    let _ = mend(stripe, missing);
     Ok(missing)
 }
 
@@ -72,13 +69,13 @@ pub fn read_column<D: Disks>(
     s: u64,
     r: u64,
     i: usize,
-    into: &mut [u64],
-    stripe: &mut [u64],
+    into: &mut Sector,
+    stripe: &mut [Sector],
 ) -> Result<Missing, Gone>
     requires left { 1 + length members.now.list ≤ (D.shelf d.old).left }
     requires size { (s < (D.shelf d.old).sectors) × (i < length members.now.list) }
     requires serving { Serving (D.shelf d.old) members.now.list members.now.dead }
-    requires lent { (length stripe.old ≡ 64 * length members.now.list) × (length into.old ≡ 64) }
+    requires lent { length stripe.old ≡ length members.now.list }
     ensures went { Went (1 + length members.now.list) Nowhere (D.shelf d.old) (D.seen d.old) (D.shelf d.new) (D.seen d.new) }
     ensures how { MatchResult result (λ missing. Read missing members.now.list s r i into.new (D.shelf d.old) (D.shelf d.new)) (λ _. (D.shelf d.new).on ≡ false) }
 {
@@ -87,7 +84,7 @@ pub fn read_column<D: Disks>(
         return Ok(Missing::Nothing);
     }
     let missing = load(d, members, s, r, stripe)?;
-    into.copy_from_slice(&stripe[64 * i..64 * i + 64]);
+    *into = stripe[i];
     Ok(missing)
 }
 
@@ -109,11 +106,10 @@ pub fn learn(members: &mut Members, missing: Missing, r: u64)
 }
 
 // Words to sector s of the member at place p; one that is known to be dead is not asked.
-fn lay<D: Disks>(d: &mut D, members: &Members, p: usize, s: u64, words: &[u64]) -> Result<(), Gone>
+fn lay<D: Disks>(d: &mut D, members: &Members, p: usize, s: u64, words: &Sector) -> Result<(), Gone>
     requires left { 0 < (D.shelf d.old).left }
     requires place { (p < length members.now.list) × (s < (D.shelf d.old).sectors) }
     requires serving { Serving (D.shelf d.old) members.now.list members.now.dead }
-    requires lent { length words.now ≡ 64 }
     ensures went { Went 1 (Here (slice_index members.now.list p) s words.now) (D.shelf d.old) (D.seen d.old) (D.shelf d.new) (D.seen d.new) }
     ensures how { MatchResult result (λ _. ((D.shelf d.old).on ≡ true → (D.shelf d.new).on ≡ true) × Shows (D.shelf d.new) (slice_index members.now.list p) s words.now) (λ _. (D.shelf d.new).on ≡ false) }
 {
@@ -130,20 +126,19 @@ pub fn store_members<D: Disks>(
     members: &Members,
     s: u64,
     r: u64,
-    stripe: &[u64],
+    stripe: &[Sector],
     which: &Selection,
 ) -> Result<(), Gone>
     requires left { count (length members.now.list) (chosen which.now.columns) ≤ (D.shelf d.old).left }
     requires size { s < (D.shelf d.old).sectors }
     requires serving { Serving (D.shelf d.old) members.now.list members.now.dead }
-    requires lent { length stripe.now ≡ 64 * length members.now.list }
-    ensures went { Went (count (length members.now.list) (chosen which.now.columns)) (Spread (chosen which.now.columns) members.now.list s r (held (length members.now.list) stripe.now)) (D.shelf d.old) (D.seen d.old) (D.shelf d.new) (D.seen d.new) }
-    ensures how { MatchResult result (λ _. Storing (length members.now.list) (chosen which.now.columns) members.now.list s r (held (length members.now.list) stripe.now) (D.shelf d.old) (D.seen d.old) (D.shelf d.new) (D.seen d.new)) (λ _. (D.shelf d.new).on ≡ false) }
+    requires lent { length stripe.now ≡ length members.now.list }
+    ensures went { Went (count (length members.now.list) (chosen which.now.columns)) (Spread (chosen which.now.columns) members.now.list s r (held stripe.now)) (D.shelf d.old) (D.seen d.old) (D.shelf d.new) (D.seen d.new) }
+    ensures how { MatchResult result (λ _. Storing (length members.now.list) (chosen which.now.columns) members.now.list s r (held stripe.now) (D.shelf d.old) (D.seen d.old) (D.shelf d.new) (D.seen d.new)) (λ _. (D.shelf d.new).on ≡ false) }
 {
-    for i in 0..members.many() {
+    for (i, column) in stripe.iter().enumerate() {
         if which.has(i) {
-            let p = place_of(i, r);
-            lay(d, members, p, s, &stripe[64 * i..64 * i + 64])?;
+            lay(d, members, place_of(i, r), s, column)?;
         }
     }
     Ok(())
@@ -161,42 +156,33 @@ fn share_of(b: &Superblock, r: u64) -> Option<Share>
     requires { Joins b.now.rebuild b.now.members.list }
     ensures { FillsWith result b.now.rebuild r }
 {
-    match b.rebuild {
-        None => None,
-        Some(fill) => {
-            if r < fill.done {
-                Some(Share {
-                    disk: fill.disk,
-                    column: index_of(fill.place, r),
-                })
-            } else {
-                None
-            }
-        }
+    let fill = b.rebuild?;
+    if r < fill.done {
+        Some(Share {
+            disk: fill.disk,
+            column: index_of(fill.place, r),
+        })
+    } else {
+        None
     }
 }
 
-// Column i of k, which behind the last is noughts, to sector s of a disk.
+// Column i, which behind the last is noughts, to sector s of a disk.
 fn write_column<D: Disks>(
     d: &mut D,
     at: u32,
     s: u64,
     i: usize,
-    k: usize,
-    stripe: &[u64],
+    stripe: &[Sector],
 ) -> Result<(), Gone>
     requires left { 0 < (D.shelf d.old).left }
-    requires place { (s < (D.shelf d.old).sectors) × (i < 12) }
+    requires place { s < (D.shelf d.old).sectors }
     requires employed { Employed (D.shelf d.old) at }
-    requires lent { length stripe.now ≡ 64 * k }
-    ensures went { Went 1 (Here at s (held k stripe.now i)) (D.shelf d.old) (D.seen d.old) (D.shelf d.new) (D.seen d.new) }
-    ensures how { MatchResult result (λ _. ((D.shelf d.new).on ≡ true) × Shows (D.shelf d.new) at s (held k stripe.now i)) (λ _. (D.shelf d.new).on ≡ false) }
+    ensures went { Went 1 (Here at s (held stripe.now i)) (D.shelf d.old) (D.seen d.old) (D.shelf d.new) (D.seen d.new) }
+    ensures how { MatchResult result (λ _. ((D.shelf d.new).on ≡ true) × Shows (D.shelf d.new) at s (held stripe.now i)) (λ _. (D.shelf d.new).on ≡ false) }
 {
-    if i < k {
-        let _ = write_sector(d, at, s, &stripe[64 * i..64 * i + 64])?;
-    } else {
-        let _ = write_sector(d, at, s, &[0u64; 64])?;
-    }
+    let column = stripe.get(i).unwrap_or(&[0; 64]);
+    let _ = write_sector(d, at, s, column)?;
     Ok(())
 }
 
@@ -206,7 +192,7 @@ pub fn store<D: Disks>(
     b: &Superblock,
     s: u64,
     r: u64,
-    stripe: &[u64],
+    stripe: &[Sector],
     which: &Selection,
 ) -> Result<(), Gone>
     requires left { count (length b.now.members.list) (chosen which.now.columns) + extra b.now.rebuild ≤ (D.shelf d.old).left }
@@ -214,14 +200,14 @@ pub fn store<D: Disks>(
     requires proper { Proper (says b.now) }
     requires serving { Serving (D.shelf d.old) b.now.members.list b.now.members.dead }
     requires employed { (e p t : ℕ) → Holds (says b.now) e p t → Employed (D.shelf d.old) e }
-    requires lent { length stripe.now ≡ 64 * length b.now.members.list }
+    requires lent { length stripe.now ≡ length b.now.members.list }
     ensures went { Went (count (length b.now.members.list) (chosen which.now.columns) + extra b.now.rebuild) (Held (chosen which.now.columns) (says b.now) s r) (D.shelf d.old) (D.seen d.old) (D.shelf d.new) (D.seen d.new) }
-    ensures how { MatchResult result (λ _. ((D.shelf d.old).on ≡ true → (D.shelf d.new).on ≡ true) × Stored (chosen which.now.columns) (says b.now) s r (held (length b.now.members.list) stripe.now) (D.shelf d.new)) (λ _. (D.shelf d.new).on ≡ false) }
+    ensures how { MatchResult result (λ _. ((D.shelf d.old).on ≡ true → (D.shelf d.new).on ≡ true) × Stored (chosen which.now.columns) (says b.now) s r (held stripe.now) (D.shelf d.new)) (λ _. (D.shelf d.new).on ≡ false) }
 {
     store_members(d, &b.members, s, r, stripe, which)?;
     if let Some(share) = share_of(b, r) {
         if which.has(share.column) {
-            write_column(d, share.disk, s, share.column, b.members.many(), stripe)?;
+            write_column(d, share.disk, s, share.column, stripe)?;
         }
     }
     Ok(())

@@ -2,8 +2,8 @@
 // says so; only what that hands out allows to store it in its place. Dropped before that, nothing was written since.
 //
 // It asks the disks of the members and of the disk that is being filled, at the stripe's place, in the journal slot and at sector 0.
-ghost use Rattle.std.specs.Prelude.{◌≡◌, ℕ, ◌+◌, ◌*◌, ◌^◌, ◌<◌, ◌≤◌, Bool, true, false, length, replicate, Some, MatchResult, slice_set};
-ghost use Rattle.field.specs.Stripe.{held, Put};
+ghost use Rattle.std.specs.Prelude.{◌≡◌, ℕ, ◌+◌, ◌^◌, ◌<◌, ◌≤◌, Bool, true, false, length, replicate, Some, MatchResult, slice_set};
+ghost use Rattle.field.specs.Stripe.{held, Few, Put};
 ghost use Rattle.layout.specs.Super.{says};
 ghost use Rattle.store.specs.Shelf.{count};
 ghost use Rattle.store.specs.Durable.{Deaths, Went, Nowhere};
@@ -16,7 +16,7 @@ use crate::journal::slot_of;
 use crate::selection::Selection;
 use crate::stripe::{load, store};
 use crate::{Disks, Gone};
-use field::{Missing, put};
+use field::{Missing, Sector, put};
 use layout::{Members, Superblock};
 
 // Stripe r, whole, to the slot of the next generation, and the commit that says so. The superblock is the next one then.
@@ -24,18 +24,18 @@ fn journal_stripe<D: Disks>(
     d: &mut D,
     b: &mut Superblock,
     r: u64,
-    stripe: &[u64],
-    sector: &mut [u64],
+    stripe: &[Sector],
+    sector: &mut Sector,
 ) -> Result<(), Gone>
     requires left { length b.old.members.list + extra b.old.rebuild + 5 ≤ (D.shelf d.old).left }
     requires place { 64 + r < (D.shelf d.old).sectors }
     requires ready { (c : Columns) × Ready (D.shelf d.old) (says b.old) c }
     requires marks { MarksTrue (D.shelf d.old) b.old.members.list b.old.members.dead }
     requires few { b.old.generation + 1 < 2 ^ 64 }
-    requires lent { (length stripe.now ≡ 64 * length b.old.members.list) × (length sector.old ≡ 64) }
+    requires lent { length stripe.now ≡ length b.old.members.list }
     ensures deaths { Deaths (D.shelf d.old) (D.seen d.old) (D.shelf d.new) (D.seen d.new) }
     ensures spent { (D.shelf d.old).left ≤ (D.shelf d.new).left + (length b.old.members.list + extra b.old.rebuild + 5) }
-    ensures how { MatchResult result (λ _. (says b.new ≡ journalling (says b.old) r) × (b.new.members ≡ b.old.members) × Journalled (says b.old) r (held (length b.old.members.list) stripe.now) (D.shelf d.old) (D.shelf d.new)) (λ _. Unjournalled (says b.old) r (held (length b.old.members.list) stripe.now) (D.shelf d.old) (D.shelf d.new)) }
+    ensures how { MatchResult result (λ _. (says b.new ≡ journalling (says b.old) r) × (b.new.members ≡ b.old.members) × Journalled (says b.old) r (held stripe.now) (D.shelf d.old) (D.shelf d.new)) (λ _. Unjournalled (says b.old) r (held stripe.now) (D.shelf d.old) (D.shelf d.new)) }
 {
     let slot = slot_of(b.generation + 1);
     store(d, b, slot, r, stripe, &Selection::all())?;
@@ -49,17 +49,17 @@ fn place_stripe<D: Disks>(
     d: &mut D,
     b: &Superblock,
     r: u64,
-    stripe: &[u64],
+    stripe: &[Sector],
     which: &Selection,
 ) -> Result<(), Gone>
     requires left { count (length b.now.members.list) (chosen which.now.columns) + extra b.now.rebuild ≤ (D.shelf d.old).left }
     requires place { (64 + r < (D.shelf d.old).sectors) × (((D.shelf d.old).sectors ≤ 4294967296) × ((says b.now).journal ≡ Some r)) }
     requires sound { (c : Columns) × Sound (D.shelf d.old) (says b.now) c }
     requires marks { MarksTrue (D.shelf d.old) b.now.members.list b.now.members.dead }
-    requires lent { length stripe.now ≡ 64 * length b.now.members.list }
+    requires lent { length stripe.now ≡ length b.now.members.list }
     ensures deaths { Deaths (D.shelf d.old) (D.seen d.old) (D.shelf d.new) (D.seen d.new) }
     ensures spent { (D.shelf d.old).left ≤ (D.shelf d.new).left + (count (length b.now.members.list) (chosen which.now.columns) + extra b.now.rebuild) }
-    ensures how { MatchResult result (λ _. Placing (chosen which.now.columns) (says b.now) r (held (length b.now.members.list) stripe.now) (D.shelf d.old) (D.shelf d.new)) (λ _. Unplaced (says b.now) (D.shelf d.old) (D.shelf d.new)) }
+    ensures how { MatchResult result (λ _. Placing (chosen which.now.columns) (says b.now) r (held stripe.now) (D.shelf d.old) (D.shelf d.new)) (λ _. Unplaced (says b.now) (D.shelf d.old) (D.shelf d.new)) }
 {
     store(d, b, 64 + r, r, stripe, which)
 }
@@ -102,11 +102,11 @@ impl<'a, D: Disks> StripeWrite<'a, D> {
     }
 
     // Its columns as they are on the members, into `columns`; says which were missing.
-    pub fn load(&mut self, members: &Members, columns: &mut [u64]) -> Result<Missing, Gone>
+    pub fn load(&mut self, members: &Members, columns: &mut [Sector]) -> Result<Missing, Gone>
         requires left { length members.now.list ≤ (D.shelf self.old.disks.now).left }
         requires size { (64 + self.old.stripe < (D.shelf self.old.disks.now).sectors) × ((D.shelf self.old.disks.now).sectors ≤ 4294967296) }
         requires serving { Serving (D.shelf self.old.disks.now) members.now.list members.now.dead }
-        requires lent { length columns.old ≡ 64 * length members.now.list }
+        requires lent { length columns.old ≡ length members.now.list }
         ensures same { (self.new.disks.ghost_name ≡ self.old.disks.ghost_name) × ((self.new.stripe ≡ self.old.stripe) × (self.new.touched ≡ self.old.touched)) }
         ensures went { Went (length members.now.list) Nowhere (D.shelf self.old.disks.now) (D.seen self.old.disks.now) (D.shelf self.new.disks.now) (D.seen self.new.disks.now) }
         ensures how { MatchResult result (λ missing. Loaded missing members.now.list (64 + self.old.stripe) self.old.stripe columns.new (D.shelf self.old.disks.now) (D.shelf self.new.disks.now)) (λ _. (D.shelf self.new.disks.now).on ≡ false) }
@@ -115,15 +115,15 @@ impl<'a, D: Disks> StripeWrite<'a, D> {
         load(self.disks, members, 64 + r, r, columns)
     }
 
-    // These words for data column j of k, and P and Q anew. The disks aren't asked.
-    pub fn take(&mut self, k: usize, j: usize, words: &[u64], columns: &mut [u64])
-        requires few { (4 ≤ k) × ((k ≤ 12) × (2 + j < k)) }
-        requires lent { (length columns.old ≡ 64 * k) × (length words.now ≡ 64) }
+    // These words for data column j, and P and Q anew. The disks aren't asked.
+    pub fn take(&mut self, j: usize, words: &Sector, columns: &mut [Sector])
+        requires few { Few (length columns.old) }
+        requires within { 2 + j < length columns.old }
         ensures same { (self.new.disks.ghost_name ≡ self.old.disks.ghost_name) × ((self.new.disks.now ≡ self.old.disks.now) × (self.new.stripe ≡ self.old.stripe)) }
         ensures touched { self.new.touched.columns ≡ slice_set self.old.touched.columns (2 + j) true }
-        ensures put { Put k j words.now (held k columns.old) (held k columns.new) }
+        ensures put { Put (length columns.old) j words.now (held columns.old) (held columns.new) }
     {
-        let _ = put(columns, k, j, words);
+        let _ = put(columns, j, words);
         self.touched.add(2 + j);
     }
 
@@ -131,19 +131,19 @@ impl<'a, D: Disks> StripeWrite<'a, D> {
     pub fn journal(
         &mut self,
         b: &mut Superblock,
-        columns: &[u64],
-        sector: &mut [u64],
+        columns: &[Sector],
+        sector: &mut Sector,
     ) -> Result<Lasting, Gone>
         requires left { length b.old.members.list + extra b.old.rebuild + 5 ≤ (D.shelf self.old.disks.now).left }
         requires place { 64 + self.old.stripe < (D.shelf self.old.disks.now).sectors }
         requires ready { (c : Columns) × Ready (D.shelf self.old.disks.now) (says b.old) c }
         requires marks { MarksTrue (D.shelf self.old.disks.now) b.old.members.list b.old.members.dead }
         requires few { b.old.generation + 1 < 2 ^ 64 }
-        requires lent { (length columns.now ≡ 64 * length b.old.members.list) × (length sector.old ≡ 64) }
+        requires lent { length columns.now ≡ length b.old.members.list }
         ensures same { (self.new.disks.ghost_name ≡ self.old.disks.ghost_name) × ((self.new.stripe ≡ self.old.stripe) × (self.new.touched ≡ self.old.touched)) }
         ensures deaths { Deaths (D.shelf self.old.disks.now) (D.seen self.old.disks.now) (D.shelf self.new.disks.now) (D.seen self.new.disks.now) }
         ensures spent { (D.shelf self.old.disks.now).left ≤ (D.shelf self.new.disks.now).left + (length b.old.members.list + extra b.old.rebuild + 5) }
-        ensures how { MatchResult result (λ l. (l.stripe ≡ self.old.stripe) × (says b.new ≡ journalling (says b.old) self.old.stripe) × (b.new.members ≡ b.old.members) × Journalled (says b.old) self.old.stripe (held (length b.old.members.list) columns.now) (D.shelf self.old.disks.now) (D.shelf self.new.disks.now)) (λ _. Unjournalled (says b.old) self.old.stripe (held (length b.old.members.list) columns.now) (D.shelf self.old.disks.now) (D.shelf self.new.disks.now)) }
+        ensures how { MatchResult result (λ l. (l.stripe ≡ self.old.stripe) × (says b.new ≡ journalling (says b.old) self.old.stripe) × (b.new.members ≡ b.old.members) × Journalled (says b.old) self.old.stripe (held columns.now) (D.shelf self.old.disks.now) (D.shelf self.new.disks.now)) (λ _. Unjournalled (says b.old) self.old.stripe (held columns.now) (D.shelf self.old.disks.now) (D.shelf self.new.disks.now)) }
     {
         let r = self.stripe;
         journal_stripe(self.disks, b, r, columns, sector)?;
@@ -151,15 +151,15 @@ impl<'a, D: Disks> StripeWrite<'a, D> {
     }
 
     // What is new of it, in its place.
-    pub fn place(self, l: Lasting, b: &Superblock, columns: &[u64]) -> Result<(), Gone>
+    pub fn place(self, l: Lasting, b: &Superblock, columns: &[Sector]) -> Result<(), Gone>
         requires left { count (length b.now.members.list) (chosen self.touched.columns) + extra b.now.rebuild ≤ (D.shelf self.disks.now).left }
         requires place { (64 + self.stripe < (D.shelf self.disks.now).sectors) × (((D.shelf self.disks.now).sectors ≤ 4294967296) × (((says b.now).journal ≡ Some self.stripe) × (l.stripe ≡ self.stripe))) }
         requires sound { (c : Columns) × Sound (D.shelf self.disks.now) (says b.now) c }
         requires marks { MarksTrue (D.shelf self.disks.now) b.now.members.list b.now.members.dead }
-        requires lent { length columns.now ≡ 64 * length b.now.members.list }
+        requires lent { length columns.now ≡ length b.now.members.list }
         ensures deaths { Deaths (D.shelf self.entry.disks.now) (D.seen self.entry.disks.now) (D.shelf self.exit.0.now) (D.seen self.exit.0.now) }
         ensures spent { (D.shelf self.entry.disks.now).left ≤ (D.shelf self.exit.0.now).left + (count (length b.now.members.list) (chosen self.entry.touched.columns) + extra b.now.rebuild) }
-        ensures how { MatchResult result (λ _. Placing (chosen self.entry.touched.columns) (says b.now) self.entry.stripe (held (length b.now.members.list) columns.now) (D.shelf self.entry.disks.now) (D.shelf self.exit.0.now)) (λ _. Unplaced (says b.now) (D.shelf self.entry.disks.now) (D.shelf self.exit.0.now)) }
+        ensures how { MatchResult result (λ _. Placing (chosen self.entry.touched.columns) (says b.now) self.entry.stripe (held columns.now) (D.shelf self.entry.disks.now) (D.shelf self.exit.0.now)) (λ _. Unplaced (says b.now) (D.shelf self.entry.disks.now) (D.shelf self.exit.0.now)) }
     {
         let Lasting { stripe: _ } = l;
         let StripeWrite {

@@ -1,6 +1,6 @@
 use Rattle.std.proofs.Common.{◌≡◌, ℕ, ◌+◌, ◌-◌, ◌*◌, ◌≤◌, ◌∷◌, length, sym, refl, ap, ◌∙◌, subst, arith}
 use borrow.Rule.Slice.PartMut.{put_mid}
-use Rattle.field.proofs.Slices.{written}
+use Rattle.field.proofs.Words.{written}
 use Rattle.store.specs.Store.{wrong}
 use Rattle.store.specs.Promise.{can, said}
 use Rattle.store.specs.Tags.{Reaches, refusal_of}

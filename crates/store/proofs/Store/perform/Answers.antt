@@ -14,7 +14,7 @@ use Rattle.store.specs.declared.Ask.TheVariants.{Read, Write, Flush, Size, Add, 
 use Rattle.store.specs.declared.Reply.TheVariants.{Bytes, Done, Many}
 use Rattle.store.proofs.Laws.{deaths_none}
 use Rattle.store.proofs.Standing.{ready_asked}
-use Rattle.store.proofs.Performing.{under, asks_for, within, tags_kept, performed_read, performed_write, performed_flush, performed_size, lost_sound, lost_write, size_is, stripe_room}
+use Rattle.store.proofs.Performing.{under, asks_for, within, tags_kept, performed_read, performed_write, performed_flush, performed_size, lost_sound, lost_write, size_is, chunk_room}
 use Rattle.store.proofs.Store.perform.Goals as goal
 
 pub read-requires : goal.read-requires
@@ -27,7 +27,7 @@ read-requires g c =
       size = (v.stands.same, fits);
       ready = (v.c, v.stands.ready);
       marks = v.stands.marks;
-      lent = (stripe_room c.many.result _ c.args.room.now c.many.ensures.is.0 k.most c.requires.lent.0, c.requires.lent.1);
+      lent = chunk_room c.many.result _ c.args.room.now c.as_chunks_mut-columns.result.0.now c.many.ensures.is.0 k.most c.requires.lent.0 c.as_chunks_mut-columns.ensures.front_len;
     }
 
 pub returns-in_err-read-in-Read : goal.returns-in_err-read-in-Read
@@ -36,7 +36,7 @@ returns-in_err-read-in-Read g c =
     let w = c.read.ensures.went in
     record {
       deaths = w.deaths;
-      same = (refl, tags_kept _ c.args.room.now c.read.new.columns (omega (arith, c.requires.lent.0)));
+      same = (refl, tags_kept _ c.args.room.now _ (omega (arith, c.requires.lent.0)));
       how = MatchResult-from_err c.from_residual.result _ _ c.from_residual.ensures.0
           (λ _. lost_sound v w.deaths c.in_err-read-in-Read.ensures.how (ready_asked w (says c.args.self.now.superblock) v.c v.stands.ready).sound);
     }
@@ -52,7 +52,7 @@ write-requires g c =
       ready = (v.c, (v.stands.ready, v.stands.explains.coded));
       marks = v.stands.marks;
       few = omega (arith, v.stands.explains.early, c.requires.early);
-      lent = (stripe_room c.many.result _ c.args.room.now c.many.ensures.is.0 k.most c.requires.lent.0, omega (arith, c.copy_from_slice.ensures.len, c.requires.lent.1));
+      lent = chunk_room c.many.result _ c.args.room.now c.as_chunks_mut-columns-in-Write.result.0.now c.many.ensures.is.0 k.most c.requires.lent.0 c.as_chunks_mut-columns-in-Write.ensures.front_len;
     }
 
 pub returns-in_err-write-in-Write : goal.returns-in_err-write-in-Write
@@ -64,14 +64,14 @@ returns-in_err-write-in-Write g c =
     let S = says c.args.self.now.superblock in
     let b = column c.args.tag c.args.room.now in
     let h = asks_for v c.args.tag c.requires.taken.0 (Write c.in-Write.s) (c.requires.taken.1 ∙ ap Some c.in-Write.is) in
-    let words : c.copy_from_slice.new.self ≡ b = c.copy_from_slice.ensures.after ∙ ap (λ (n : ℕ). take n (drop (64 * c.args.tag) c.args.room.now)) (let e : 64 * c.args.tag + 64 - 64 * c.args.tag ≡ 64 = omega arith in e) in
+    let words : c.copy_from_slice-in-Write.new.self ≡ b = c.copy_from_slice-in-Write.ensures.after ∙ ap (λ (n : ℕ). take n (drop (64 * c.args.tag) c.args.room.now)) (let e : 64 * c.args.tag + 64 - 64 * c.args.tag ≡ 64 = omega arith in e) in
     record {
       deaths = died;
-      same = (refl, tags_kept _ c.args.room.now c.write.new.columns (omega (arith, c.requires.lent.0)));
+      same = (refl, tags_kept _ c.args.room.now _ (omega (arith, c.requires.lent.0)));
       how = MatchResult-from_err c.from_residual-in_err-write-in-Write.result _ _ c.from_residual-in_err-write-in-Write.ensures.0
           (λ _. lost_write v died c.args.tag c.in-Write.s c.requires.taken.0 b b h.m h.g h.is
           (subst (λ (w : List ℕ). Unsaved y.sectors c.in-Write.s w S x y) words
-          (subst (λ (n : ℕ). Unsaved n c.in-Write.s c.copy_from_slice.new.self S x y) (v.stands.same ∙ sym died.size) c.in_err-write-in-Write.ensures.how)));
+          (subst (λ (n : ℕ). Unsaved n c.in-Write.s c.copy_from_slice-in-Write.new.self S x y) (v.stands.same ∙ sym died.size) c.in_err-write-in-Write.ensures.how)));
     }
 
 pub returns-in_ok-read-in-Read : goal.returns-in_ok-read-in-Read
@@ -82,13 +82,14 @@ returns-in_ok-read-in-Read g c =
     let got = c.in_ok-read-in-Read.ensures.how in
     record {
       deaths = w.deaths;
-      same = (refl, tags_kept _ c.args.room.now c.read.new.columns (omega (arith, c.requires.lent.0)));
+      same = (refl, tags_kept _ c.args.room.now _ (omega (arith, c.requires.lent.0)));
       how = λ v.
           let h = asks_for v c.args.tag c.requires.taken.0 (Read c.in-Read.s) (c.requires.taken.1 ∙ ap Some c.in-Read.is) in
           let words : c.read.new.into ≡ sector_of x.sectors c.in-Read.s v.c = subst (λ (n : ℕ). c.read.new.into ≡ sector_of n c.in-Read.s v.c) v.stands.same (got.words_are v.c v.stands.ready v.stands.explains.coded) in
-          subst (λ (a : Ask). Performed a Bytes c.args.tag c.read.new.into (under c.args.self.now c.read.new.b) v.h y (g.D.Disks.seen c.read.new.d)) (sym c.in-Read.is)
+          subst (λ (w : List ℕ). Performed c.args.a Bytes c.args.tag w (under c.args.self.now c.read.new.b) v.h y (g.D.Disks.seen c.read.new.d)) (sym c.copy_from_slice.ensures.after)
+          (subst (λ (a : Ask). Performed a Bytes c.args.tag c.read.new.into (under c.args.self.now c.read.new.b) v.h y (g.D.Disks.seen c.read.new.d)) (sym c.in-Read.is)
           (performed_read v w.deaths c.read.new.b c.args.tag c.in-Read.s c.requires.taken.0 c.read.new.into (column c.args.tag c.args.room.now) h.m h.g h.is (got.lit v.stands.lit)
-          (ready_asked w (says c.args.self.now.superblock) v.c v.stands.ready) c.read.ensures.same.0 c.read.ensures.same.1 words);
+          (ready_asked w (says c.args.self.now.superblock) v.c v.stands.ready) c.read.ensures.same.0 c.read.ensures.same.1 words));
     }
 
 pub returns-in_ok-write-in-Write : goal.returns-in_ok-write-in-Write
@@ -99,18 +100,19 @@ returns-in_ok-write-in-Write g c =
     let S = says c.args.self.now.superblock in
     let b = column c.args.tag c.args.room.now in
     let done = c.in_ok-write-in-Write.ensures.how in
-    let words : c.copy_from_slice.new.self ≡ b = c.copy_from_slice.ensures.after ∙ ap (λ (n : ℕ). take n (drop (64 * c.args.tag) c.args.room.now)) (let e : 64 * c.args.tag + 64 - 64 * c.args.tag ≡ 64 = omega arith in e) in
+    let words : c.copy_from_slice-in-Write.new.self ≡ b = c.copy_from_slice-in-Write.ensures.after ∙ ap (λ (n : ℕ). take n (drop (64 * c.args.tag) c.args.room.now)) (let e : 64 * c.args.tag + 64 - 64 * c.args.tag ≡ 64 = omega arith in e) in
     record {
       deaths = died;
-      same = (refl, tags_kept _ c.args.room.now c.write.new.columns (omega (arith, c.requires.lent.0)));
+      same = (refl, tags_kept _ c.args.room.now _ (omega (arith, c.requires.lent.0)));
       how = λ v.
           let h = asks_for v c.args.tag c.requires.taken.0 (Write c.in-Write.s) (c.requires.taken.1 ∙ ap Some c.in-Write.is) in
           let e = v.stands.same ∙ sym died.size in
-          subst (λ (a : Ask). Performed a Done c.args.tag c.copy_from_slice.new.self (under c.args.self.now c.write.new.b) v.h y (g.D.Disks.seen c.write.new.d)) (sym c.in-Write.is)
-          (performed_write v died c.args.tag c.in-Write.s c.requires.taken.0 c.copy_from_slice.new.self b h.m h.g h.is c.write.new.b
+          subst (λ (w : List ℕ). Performed c.args.a Done c.args.tag w (under c.args.self.now c.write.new.b) v.h y (g.D.Disks.seen c.write.new.d)) (sym c.copy_from_slice-in-Write-2.ensures.after)
+          (subst (λ (a : Ask). Performed a Done c.args.tag c.copy_from_slice-in-Write.new.self (under c.args.self.now c.write.new.b) v.h y (g.D.Disks.seen c.write.new.d)) (sym c.in-Write.is)
+          (performed_write v died c.args.tag c.in-Write.s c.requires.taken.0 c.copy_from_slice-in-Write.new.self b h.m h.g h.is c.write.new.b
           (subst (λ (n : ℕ). says c.write.new.b ≡ journalling S (stripe_of (n - 64) c.in-Write.s)) e done.0) done.1
           (subst (λ (w : List ℕ). Saved y.sectors c.in-Write.s w S x y) words
-          (subst (λ (n : ℕ). Saved n c.in-Write.s c.copy_from_slice.new.self S x y) e done.2)));
+          (subst (λ (n : ℕ). Saved n c.in-Write.s c.copy_from_slice-in-Write.new.self S x y) e done.2))));
     }
 
 pub returns-in-Flush : goal.returns-in-Flush

@@ -1,11 +1,13 @@
-use Rattle.store.proofs.Laws.{sync_went, sync_fine, sync_dark, sync_never}
+use Rattle.std.proofs.Common.{Ok, Err}
+use Rattle.std.proofs.lemmas.Result.{MatchResult-from_err}
+use Rattle.store.proofs.Laws.{sync_went, sync_synced}
 use Rattle.store.proofs.answers.sync_all.Goals as goal
 
-pub returns-in-Fine : goal.returns-in-Fine
-returns-in-Fine g c = let w = c.in-Fine.ensures in record { went = sync_went w; how = sync_fine w }
+pub returns-in_err-lives : goal.returns-in_err-lives
+returns-in_err-lives g c = record {
+  went = sync_went c.sync.ensures;
+  how = MatchResult-from_err c.from_residual.result _ _ c.from_residual.ensures.0 (λ _. sync_synced c.sync.result (Err _) c.sync.ensures c.in_err-lives.ensures);
+}
 
-pub returns-in-Dead : goal.returns-in-Dead
-returns-in-Dead g c = absurd (sync_never c.in-Dead.ensures)
-
-pub returns-in-Dark : goal.returns-in-Dark
-returns-in-Dark g c = let w = c.in-Dark.ensures in record { went = sync_went w; how = sync_dark w }
+pub returns : goal.returns
+returns g c = record { went = sync_went c.sync.ensures; how = sync_synced c.sync.result (Ok c.in_ok-lives.field-0) c.sync.ensures c.in_ok-lives.ensures }

@@ -22,7 +22,6 @@ head-requires g c =
       size = omega (arith, w.deaths.size, c.requires.size);
       proper = c.requires.proper;
       employed = λ p l. w.deaths.employed _ (c.requires.employed p l);
-      lent = c.requires.lent;
     }
 
 pub returns : goal.returns

@@ -13,7 +13,7 @@ write_copies-requires g c =
       size = c.requires.size;
       proper = c.requires.proper;
       employed = c.requires.employed;
-      lent = (omega arith, ap super_of c.encode.ensures ∙ read_again (says c.args.next.now));
+      lent = ap super_of c.encode.ensures ∙ read_again (says c.args.next.now);
     }
 
 pub returns-in_err-write_copies : goal.returns-in_err-write_copies

@@ -23,14 +23,14 @@ write_sector-requires g c =
     let ds = c.disks.ensures in
     let lt : c.loop-at.at-index < 3 = omega (arith, three _ _ ds.is ds.roster.least) in
     let e : Employed (g.D.Disks.shelf c.loop-at.d) (get_or (take 3 c.disks.result.now) c.loop-at.at-index 0) = rw (three_at _ _ ds.is c.loop-at.at-index lt) (w.deaths.employed _ (c.requires.employed c.loop-at.at-index lt)) in
-    record { may = ((omega (arith, w.spent, c.requires.left), e.there, omega (arith, w.deaths.size, c.requires.size)), e.used); lent = c.requires.lent.0 }
+    ((omega (arith, w.spent, c.requires.left), e.there, omega (arith, w.deaths.size, c.requires.size)), e.used)
 
 pub returns-in_err-write_sector : goal.returns-in_err-write_sector
 returns-in_err-write_sector g c =
     let ds = c.disks.ensures in
     let lt : c.loop-at.at-index < 3 = omega (arith, three _ _ ds.is ds.roster.least) in
     record {
-      went = went_longer (omega arith) (copying_went c.requires.lent.1 lt (three_at _ _ ds.is _ lt) c.loop-at.invariant c.write_sector.ensures.went);
+      went = went_longer (omega arith) (copying_went c.requires.lent lt (three_at _ _ ds.is _ lt) c.loop-at.invariant c.write_sector.ensures.went);
       how = MatchResult-from_err c.from_residual.result _ _ c.from_residual.ensures.0 (λ _. c.in_err-write_sector.ensures.how);
     }
 
@@ -38,7 +38,7 @@ pub loop-at-preserved : goal.loop-at-preserved
 loop-at-preserved g c =
     let ds = c.disks.ensures in
     let lt : c.loop-at.at-index < 3 = omega (arith, three _ _ ds.is ds.roster.least) in
-    copying_more c.requires.lent.1 lt (three_at _ _ ds.is _ lt) c.loop-at.invariant c.write_sector.ensures.went c.in_ok-write_sector.ensures.how.shows
+    copying_more c.requires.lent lt (three_at _ _ ds.is _ lt) c.loop-at.invariant c.write_sector.ensures.went c.in_ok-write_sector.ensures.how.shows
 
 pub returns : goal.returns
 returns g c =

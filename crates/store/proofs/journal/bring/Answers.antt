@@ -21,7 +21,6 @@ carry_all-requires g c =
       left = omega (arith, c.requires.left);
       place = (omega (arith, c.slot_of-from.ensures, low.1, c.requires.size.0), (l, slot_apart S c.slot_of-from.ensures c.in-Some.is));
       employed = λ p h. c.requires.employed _ p 0 (inl (h, refl));
-      lent = c.requires.lent;
     }
 
 pub returns-in_err-carry_all : goal.returns-in_err-carry_all
@@ -40,7 +39,6 @@ carry-requires g c =
       left = omega (arith, w.spent, c.requires.left);
       place = (omega (arith, c.slot_of-from.ensures, low.1, w.deaths.size, c.requires.size.0), omega (arith, l, w.deaths.size));
       employed = w.deaths.employed _ (c.requires.employed _ c.in-Some-rebuild.fill.place c.in-Some.r (inr (fills_by c.args.b.now.rebuild c.in-Some-rebuild.fill c.in-Some.r c.in-Some-rebuild.is c.if-r-fill.true)));
-      lent = omega arith;
     }
 
 pub returns-in_err-carry : goal.returns-in_err-carry

@@ -5,7 +5,7 @@ use Rattle.store.proofs.Carried.{moved_dead, only_none, only_one, moved_alive}
 use Rattle.store.proofs.journal.carry.Goals as goal
 
 pub read_sector-requires : goal.read_sector-requires
-read_sector-requires g c = record { may = (omega arith, c.requires.employed.there, c.requires.place.0); lent = c.requires.lent }
+read_sector-requires g c = (omega arith, c.requires.employed.there, c.requires.place.0)
 
 pub returns-in_err-read_sector : goal.returns-in_err-read_sector
 returns-in_err-read_sector g c =
@@ -18,7 +18,7 @@ pub write_sector-requires : goal.write_sector-requires
 write_sector-requires g c =
     let w = c.read_sector.ensures.went in
     let e = w.deaths.employed _ c.requires.employed in
-    record { may = ((omega (arith, w.spent, c.requires.left), e.there, omega (arith, w.deaths.size, c.requires.place)), e.used); lent = omega arith }
+    ((omega (arith, w.spent, c.requires.left), e.there, omega (arith, w.deaths.size, c.requires.place)), e.used)
 
 pub returns-in_err-write_sector : goal.returns-in_err-write_sector
 returns-in_err-write_sector g c =

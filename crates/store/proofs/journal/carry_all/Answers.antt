@@ -16,7 +16,6 @@ carry-requires g c =
       left = omega (arith, w.spent, c.requires.left, ds.roster.most);
       place = (omega (arith, w.deaths.size, c.requires.place.0), omega (arith, w.deaths.size, c.requires.place.1.0));
       employed = rw ds.is (w.deaths.employed _ (c.requires.employed c.loop-at.at-index l));
-      lent = omega arith;
     }
 
 pub returns-in_err-carry : goal.returns-in_err-carry

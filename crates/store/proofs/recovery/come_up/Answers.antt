@@ -16,7 +16,7 @@ returns-in_err-found g c =
 pub bring-requires : goal.bring-requires
 bring-requires g c =
     let k = (recovered_kept c.in_ok-found.ensures.how.0 c.requires.held).1 in
-    record { left = omega (arith, c.recover.ensures.spent, c.requires.left); size = (k.least, (k.most, k.inside)); employed = k.employed; lent = omega arith }
+    record { left = omega (arith, c.recover.ensures.spent, c.requires.left); size = (k.least, (k.most, k.inside)); employed = k.employed }
 
 pub returns-in_err-bring : goal.returns-in_err-bring
 returns-in_err-bring g c =

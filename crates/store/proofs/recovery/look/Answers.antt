@@ -16,11 +16,11 @@ unmarked b l =
     ap (λ (S : Super). S.generation) (unmarked_says (set b 0 0) (λ q. let z : ◌≡◌ {A = ℕ} 0 0x6e75_6c74_736a_6566 = sym first ∙ q in omega arith))
 
 pub loop-i-init : goal.loop-i-init
-loop-i-init g c = look_none _ _ _ (unmarked _ c.requires.lent.0)
+loop-i-init g c = look_none _ _ _ (unmarked _ c.told-best)
 
 pub read_sector-requires : goal.read_sector-requires
 read_sector-requires g c =
-    let w = c.loop-i.invariant.went in record { may = (omega (arith, w.spent, c.requires.left), omega arith, omega (arith, w.deaths.size, c.requires.size)); lent = omega arith }
+    let w = c.loop-i.invariant.went in (omega (arith, w.spent, c.requires.left), omega arith, omega (arith, w.deaths.size, c.requires.size))
 
 pub returns-in_err-read_sector : goal.returns-in_err-read_sector
 returns-in_err-read_sector g c =

@@ -7,7 +7,7 @@ use Rattle.store.proofs.Choosing.{recovered, lapsed_later, lapsed_first, found_p
 use Rattle.store.proofs.recovery.recover.Goals as goal
 
 pub look-requires : goal.look-requires
-look-requires g c = record { left = omega (arith, c.requires.left); size = omega (arith, c.requires.held.torn.old.least); lent = c.requires.lent }
+look-requires g c = record { left = omega (arith, c.requires.left); size = omega (arith, c.requires.held.torn.old.least) }
 
 pub returns-in_err-look : goal.returns-in_err-look
 returns-in_err-look g c =
@@ -18,7 +18,7 @@ returns-in_err-look g c =
     }
 
 pub decode-found-requires : goal.decode-found-requires
-decode-found-requires g c = record { lent = omega arith; proper = found_proper c.in_ok-look.ensures.how _ _ _ _ c.requires.held.torn }
+decode-found-requires g c = found_proper c.in_ok-look.ensures.how _ _ _ _ c.requires.held.torn
 
 pub head-requires : goal.head-requires
 head-requires g c =
@@ -30,7 +30,6 @@ head-requires g c =
       size = omega (arith, p.went.deaths.size, o.torn.old.least);
       proper = subst Proper e (found_proper p _ _ _ _ o.torn);
       employed = λ i l. subst (λ (Q : Super). Employed (g.D.Disks.shelf c.look.new.d) (get_or Q.members i 0)) e (found_employed p _ _ _ _ o.torn i l);
-      lent = omega arith;
     }
 
 pub returns-in_err-head : goal.returns-in_err-head

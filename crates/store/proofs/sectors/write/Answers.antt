@@ -41,7 +41,7 @@ load-requires g c =
       left = omega (arith, c.requires.left);
       size = (omega (arith, l, c.begin-change.ensures.1.1.0, c.requires.size.0), k.most);
       serving = serving_kept c.args.b.now.members.dead k c.requires.marks;
-      lent = c.requires.lent.0;
+      lent = c.requires.lent;
     })
 
 -- the disks after the load, against those that were lent
@@ -63,9 +63,8 @@ take-requires g c =
     let k = c.requires.ready.1.0.sound.kept in
     let some : 64 < c.args.n = omega (arith, c.requires.size.0, k.least) in
     let l = at_column c.args.n _ c.args.s c.locate-at.result.stripe c.locate-at.result.column some c.requires.size.1 c.locate-at.ensures.1 c.locate-at.ensures.0 in
-    let is = c.many-k.ensures.is in
-    let long : length c.load.new.columns ≡ length c.args.columns.now = c.load.auto.columns in
-    record { few = (omega (arith, is, k.proper.roster.least), (omega (arith, is, k.proper.roster.most), omega (arith, is, l))); lent = (omega (arith, is, long, c.requires.lent.0), c.requires.lent.1) }
+    let is : length c.load.new.columns ≡ length c.args.b.now.members.list = omega (arith, c.load.auto.columns, c.requires.lent) in
+    record { few = (omega (arith, is, k.proper.roster.least), omega (arith, is, k.proper.roster.most)); within = omega (arith, is, l) }
 
 pub journal-requires : goal.journal-requires
 journal-requires g c =
@@ -93,7 +92,7 @@ journal-requires g c =
       ready = (c.requires.ready.0, subst (λ (Q : Super). Ready (g.D.Disks.shelf y) Q c.requires.ready.0) (sym (parts_same b.generation _ _ _ _ _ _ list refl refl)) (ready_asked w S c.requires.ready.0 c.requires.ready.1.0));
       marks = marks_kept (g.D.Disks.shelf y) (sym list) (sym c.learn.ensures.marks) (marks_learned (g.D.Disks.shelf y) ds b.members.dead c.in_ok-missing.missing r (marks_went w ds b.members.dead c.requires.marks) (subst (λ (z : ℕ). Each c.in_ok-missing.missing (λ i. (i < length ds) × ((g.D.Disks.shelf y).alive (disk_of ds z i) ≡ false))) c.begin-change.ensures.1.1.0 dead));
       few = c.requires.few;
-      lent = (omega (arith, many, long, long2, c.requires.lent.0), refl);
+      lent = omega (arith, many, long, long2, c.requires.lent);
     }
 
 pub returns-in_err-lasting : goal.returns-in_err-lasting
@@ -117,14 +116,15 @@ returns-in_err-lasting g c =
     let p : Loaded c.in_ok-missing.missing ds (64 + r) r t (g.D.Disks.shelf x) (g.D.Disks.shelf y) =
     along (λ (a o : g.row.D.Denot). Loaded c.in_ok-missing.missing ds (64 + r) r t (g.D.Disks.shelf a) (g.D.Disks.shelf o)) c.begin-change.ensures.1.0 c.take.ensures.same.1.0
     (subst (λ (q : ℕ). Loaded c.in_ok-missing.missing ds (64 + q) q t (g.D.Disks.shelf c.begin-change.result.disks.now) (g.D.Disks.shelf c.load.new.self.disks.now)) c.begin-change.ensures.1.1.0 c.in_ok-missing.ensures.how) in
-    let is : c.many-k.result ≡ length ds = c.many-k.ensures.is.0 in
-    let put : Put (length ds) j c.args.words.now (held (length ds) t) (held (length ds) u) = subst (λ (q : ℕ). Put q j c.args.words.now (held q t) (held q u)) is c.take.ensures.put in
+    let is : length t ≡ length ds = omega (arith, c.load.auto.columns, c.requires.lent) in
+    let within : length t ≤ length ds = omega (arith, is) in
+    let put : Put (length ds) j c.args.words.now (held t) (held u) = subst (λ (q : ℕ). Put q j c.args.words.now (held t) (held u)) is c.take.ensures.put in
     let e = parts_same b.generation _ _ _ _ _ _ c.learn.ensures.list refl refl in
-    let un : Unjournalled S r (held (length ds) u) (g.D.Disks.shelf y) (g.D.Disks.shelf z) =
-    subst (λ (q : ℕ). Unjournalled S q (held (length ds) u) (g.D.Disks.shelf y) (g.D.Disks.shelf z)) at-r
-    (subst (λ (Q : Super). Unjournalled Q c.take.new.self.stripe (held (length Q.members) u) (g.D.Disks.shelf y) (g.D.Disks.shelf z)) e c.in_err-lasting.ensures.how) in
+    let un : Unjournalled S r (held u) (g.D.Disks.shelf y) (g.D.Disks.shelf z) =
+    subst (λ (q : ℕ). Unjournalled S q (held u) (g.D.Disks.shelf y) (g.D.Disks.shelf z)) at-r
+    (subst (λ (Q : Super). Unjournalled Q c.take.new.self.stripe (held u) (g.D.Disks.shelf y) (g.D.Disks.shelf z)) e c.in_err-lasting.ensures.how) in
     let gone : Unsaved c.args.n c.args.s c.args.words.now S (g.D.Disks.shelf x) (g.D.Disks.shelf z) =
-    unsaved_journal S c.args.n c.args.s r j t u c.args.words.now some c.requires.size.1 c.locate-at.ensures.1 c.locate-at.ensures.0 k.proper.roster.most c.requires.size.0 w p put un in
+    unsaved_journal S c.args.n c.args.s r j t u c.args.words.now some c.requires.size.1 c.locate-at.ensures.1 c.locate-at.ensures.0 k.proper.roster.most c.requires.size.0 within w p put un in
     let many : length c.learn.new.members.list ≡ length ds = ap length c.learn.ensures.list in
     let few : (g.D.Disks.shelf x).left ≤ (g.D.Disks.shelf z).left + (2 * length ds + 2 * extra b.rebuild + 8) = omega (arith, many, w.spent, c.journal.ensures.spent) in
     let died : Deaths (g.D.Disks.shelf x) (g.D.Disks.seen x) (g.D.Disks.shelf z) (g.D.Disks.seen z) = deaths_then w.deaths c.journal.ensures.deaths in
@@ -151,15 +151,16 @@ place-requires g c =
     let p : Loaded c.in_ok-missing.missing ds (64 + r) r t (g.D.Disks.shelf x) (g.D.Disks.shelf y) =
     along (λ (a o : g.row.D.Denot). Loaded c.in_ok-missing.missing ds (64 + r) r t (g.D.Disks.shelf a) (g.D.Disks.shelf o)) c.begin-change.ensures.1.0 c.take.ensures.same.1.0
     (subst (λ (q : ℕ). Loaded c.in_ok-missing.missing ds (64 + q) q t (g.D.Disks.shelf c.begin-change.result.disks.now) (g.D.Disks.shelf c.load.new.self.disks.now)) c.begin-change.ensures.1.1.0 c.in_ok-missing.ensures.how) in
-    let is : c.many-k.result ≡ length ds = c.many-k.ensures.is.0 in
-    let put : Put (length ds) j c.args.words.now (held (length ds) t) (held (length ds) u) = subst (λ (q : ℕ). Put q j c.args.words.now (held q t) (held q u)) is c.take.ensures.put in
+    let is : length t ≡ length ds = omega (arith, c.load.auto.columns, c.requires.lent) in
+    let within : length t ≤ length ds = omega (arith, is) in
+    let put : Put (length ds) j c.args.words.now (held t) (held u) = subst (λ (q : ℕ). Put q j c.args.words.now (held t) (held u)) is c.take.ensures.put in
     let e = parts_same b.generation _ _ _ _ _ _ c.learn.ensures.list refl refl in
     let jl = c.in_ok-lasting.ensures.how in
     let S' = says c.journal.new.b in
     let same-b : says c.journal.new.b ≡ journalling S r = subst (λ (q : ℕ). says c.journal.new.b ≡ journalling S q) at-r (subst (λ (Q : Super). says c.journal.new.b ≡ journalling Q c.take.new.self.stripe) e jl.1) in
-    let q : Journalled S r (held (length ds) u) (g.D.Disks.shelf y) (g.D.Disks.shelf z) =
-    subst (λ (q : ℕ). Journalled S q (held (length ds) u) (g.D.Disks.shelf y) (g.D.Disks.shelf z)) at-r
-    (subst (λ (Q : Super). Journalled Q c.take.new.self.stripe (held (length Q.members) u) (g.D.Disks.shelf y) (g.D.Disks.shelf z)) e jl.3) in
+    let q : Journalled S r (held u) (g.D.Disks.shelf y) (g.D.Disks.shelf z) =
+    subst (λ (q : ℕ). Journalled S q (held u) (g.D.Disks.shelf y) (g.D.Disks.shelf z)) at-r
+    (subst (λ (Q : Super). Journalled Q c.take.new.self.stripe (held u) (g.D.Disks.shelf y) (g.D.Disks.shelf z)) e jl.3) in
     let many : length c.learn.new.members.list ≡ length ds = ap length c.learn.ensures.list in
     let many2 : length c.journal.new.b.members.list ≡ length ds = ap (λ (Q : Super). length Q.members) same-b in
     let adds : extra c.journal.new.b.rebuild ≡ extra b.rebuild = ap (λ (Q : Super). extra Q.rebuild) same-b in
@@ -181,12 +182,12 @@ place-requires g c =
     record {
       left = omega (arith, many, adds, three, w.spent, c.journal.ensures.spent, c.requires.left);
       place = (omega (arith, at-r2, l, died.size, c.requires.size.0), (omega (arith, died.size, k.most), (ap (λ (Q : Super). Q.journal) same-b ∙ ap Some (sym at-r2), jl.0 ∙ sym c.journal.ensures.same.1.0)));
-      sound = (next S c.args.n c.args.s r j t u c.args.words.now some c.requires.size.1 c.locate-at.ensures.1 c.locate-at.ensures.0 k.proper.roster.most c.requires.size.0 w p put c₀, sound_journalled S c.args.n c.args.s r j t u c.args.words.now some c.requires.size.1 c.locate-at.ensures.1 c.locate-at.ensures.0 k.proper.roster.most c.requires.size.0 w p put q S' same-b c₀ c.requires.ready.1.0);
+      sound = (next S c.args.n c.args.s r j t u c.args.words.now some c.requires.size.1 c.locate-at.ensures.1 c.locate-at.ensures.0 k.proper.roster.most c.requires.size.0 within w p put c₀, sound_journalled S c.args.n c.args.s r j t u c.args.words.now some c.requires.size.1 c.locate-at.ensures.1 c.locate-at.ensures.0 k.proper.roster.most c.requires.size.0 within w p put q S' same-b c₀ c.requires.ready.1.0);
       marks = marks-z;
-      lent = omega (arith, many2, long, long2, c.requires.lent.0);
+      lent = omega (arith, many2, long, long2, c.requires.lent);
     }
 
-facts : (g : Over) (c : goal.After-d-2-1 g) → (Deaths (g.D.Disks.shelf c.args.d.now) (g.D.Disks.seen c.args.d.now) (g.D.Disks.shelf c.place.new.self.0) (g.D.Disks.seen c.place.new.self.0)) × ((g.D.Disks.shelf c.args.d.now).left ≤ (g.D.Disks.shelf c.place.new.self.0).left + (2 * length c.args.b.now.members.list + 2 * extra c.args.b.now.rebuild + 8)) × (c.journal.new.self.disks.ghost_name ≡ c.begin-change.result.disks.ghost_name) × (says c.journal.new.b ≡ journalling (says c.args.b.now) (stripe_of (c.args.n - 64) c.args.s)) × (MarksTrue (g.D.Disks.shelf c.place.new.self.0) c.journal.new.b.members.list c.journal.new.b.members.dead) × (Unplaced (says c.journal.new.b) (g.D.Disks.shelf c.journal.new.self.disks.now) (g.D.Disks.shelf c.place.new.self.0) → Unsaved c.args.n c.args.s c.args.words.now (says c.args.b.now) (g.D.Disks.shelf c.args.d.now) (g.D.Disks.shelf c.place.new.self.0)) × (Placing (chosen c.journal.new.self.touched.columns) (says c.journal.new.b) c.journal.new.self.stripe (held (length c.journal.new.b.members.list) c.take.new.columns) (g.D.Disks.shelf c.journal.new.self.disks.now) (g.D.Disks.shelf c.place.new.self.0) → Saved c.args.n c.args.s c.args.words.now (says c.args.b.now) (g.D.Disks.shelf c.args.d.now) (g.D.Disks.shelf c.place.new.self.0))
+facts : (g : Over) (c : goal.After-d-2-1 g) → (Deaths (g.D.Disks.shelf c.args.d.now) (g.D.Disks.seen c.args.d.now) (g.D.Disks.shelf c.place.new.self.0) (g.D.Disks.seen c.place.new.self.0)) × ((g.D.Disks.shelf c.args.d.now).left ≤ (g.D.Disks.shelf c.place.new.self.0).left + (2 * length c.args.b.now.members.list + 2 * extra c.args.b.now.rebuild + 8)) × (c.journal.new.self.disks.ghost_name ≡ c.begin-change.result.disks.ghost_name) × (says c.journal.new.b ≡ journalling (says c.args.b.now) (stripe_of (c.args.n - 64) c.args.s)) × (MarksTrue (g.D.Disks.shelf c.place.new.self.0) c.journal.new.b.members.list c.journal.new.b.members.dead) × (Unplaced (says c.journal.new.b) (g.D.Disks.shelf c.journal.new.self.disks.now) (g.D.Disks.shelf c.place.new.self.0) → Unsaved c.args.n c.args.s c.args.words.now (says c.args.b.now) (g.D.Disks.shelf c.args.d.now) (g.D.Disks.shelf c.place.new.self.0)) × (Placing (chosen c.journal.new.self.touched.columns) (says c.journal.new.b) c.journal.new.self.stripe (held c.take.new.columns) (g.D.Disks.shelf c.journal.new.self.disks.now) (g.D.Disks.shelf c.place.new.self.0) → Saved c.args.n c.args.s c.args.words.now (says c.args.b.now) (g.D.Disks.shelf c.args.d.now) (g.D.Disks.shelf c.place.new.self.0))
 facts g c =
     let b = c.args.b.now in
     let S = says c.args.b.now in
@@ -207,15 +208,16 @@ facts g c =
     let p : Loaded c.in_ok-missing.missing ds (64 + r) r t (g.D.Disks.shelf x) (g.D.Disks.shelf y) =
     along (λ (a o : g.row.D.Denot). Loaded c.in_ok-missing.missing ds (64 + r) r t (g.D.Disks.shelf a) (g.D.Disks.shelf o)) c.begin-change.ensures.1.0 c.take.ensures.same.1.0
     (subst (λ (q : ℕ). Loaded c.in_ok-missing.missing ds (64 + q) q t (g.D.Disks.shelf c.begin-change.result.disks.now) (g.D.Disks.shelf c.load.new.self.disks.now)) c.begin-change.ensures.1.1.0 c.in_ok-missing.ensures.how) in
-    let is : c.many-k.result ≡ length ds = c.many-k.ensures.is.0 in
-    let put : Put (length ds) j c.args.words.now (held (length ds) t) (held (length ds) u) = subst (λ (q : ℕ). Put q j c.args.words.now (held q t) (held q u)) is c.take.ensures.put in
+    let is : length t ≡ length ds = omega (arith, c.load.auto.columns, c.requires.lent) in
+    let within : length t ≤ length ds = omega (arith, is) in
+    let put : Put (length ds) j c.args.words.now (held t) (held u) = subst (λ (q : ℕ). Put q j c.args.words.now (held t) (held u)) is c.take.ensures.put in
     let e = parts_same b.generation _ _ _ _ _ _ c.learn.ensures.list refl refl in
     let jl = c.in_ok-lasting.ensures.how in
     let S' = says c.journal.new.b in
     let same-b : says c.journal.new.b ≡ journalling S r = subst (λ (q : ℕ). says c.journal.new.b ≡ journalling S q) at-r (subst (λ (Q : Super). says c.journal.new.b ≡ journalling Q c.take.new.self.stripe) e jl.1) in
-    let q : Journalled S r (held (length ds) u) (g.D.Disks.shelf y) (g.D.Disks.shelf z) =
-    subst (λ (q : ℕ). Journalled S q (held (length ds) u) (g.D.Disks.shelf y) (g.D.Disks.shelf z)) at-r
-    (subst (λ (Q : Super). Journalled Q c.take.new.self.stripe (held (length Q.members) u) (g.D.Disks.shelf y) (g.D.Disks.shelf z)) e jl.3) in
+    let q : Journalled S r (held u) (g.D.Disks.shelf y) (g.D.Disks.shelf z) =
+    subst (λ (q : ℕ). Journalled S q (held u) (g.D.Disks.shelf y) (g.D.Disks.shelf z)) at-r
+    (subst (λ (Q : Super). Journalled Q c.take.new.self.stripe (held u) (g.D.Disks.shelf y) (g.D.Disks.shelf z)) e jl.3) in
     let many : length c.learn.new.members.list ≡ length ds = ap length c.learn.ensures.list in
     let many2 : length c.journal.new.b.members.list ≡ length ds = ap (λ (Q : Super). length Q.members) same-b in
     let adds : extra c.journal.new.b.rebuild ≡ extra b.rebuild = ap (λ (Q : Super). extra Q.rebuild) same-b in
@@ -236,12 +238,11 @@ facts g c =
     let few : (g.D.Disks.shelf x).left ≤ (g.D.Disks.shelf v).left + (2 * length ds + 2 * extra b.rebuild + 8) = omega (arith, many, adds, three, w.spent, c.journal.ensures.spent, c.place.ensures.spent) in
     let marks-v : MarksTrue (g.D.Disks.shelf v) ms c.journal.new.b.members.dead = marks_deaths c.place.ensures.deaths ms _ marks-z in
     let unplaced : Unplaced S' (g.D.Disks.shelf z) (g.D.Disks.shelf v) → Unsaved c.args.n c.args.s c.args.words.now S (g.D.Disks.shelf x) (g.D.Disks.shelf v) =
-    λ o. unsaved_place S c.args.n c.args.s r j t u c.args.words.now some c.requires.size.1 c.locate-at.ensures.1 c.locate-at.ensures.0 k.proper.roster.most c.requires.size.0 w p put q S' same-b o in
-    let placed : Placing (chosen c.journal.new.self.touched.columns) S' c.journal.new.self.stripe (held (length ms) u) (g.D.Disks.shelf z) (g.D.Disks.shelf v) → Saved c.args.n c.args.s c.args.words.now S (g.D.Disks.shelf x) (g.D.Disks.shelf v) =
-    λ o. saved_place S c.args.n c.args.s r j t u c.args.words.now some c.requires.size.1 c.locate-at.ensures.1 c.locate-at.ensures.0 k.proper.roster.most c.requires.size.0 w p put q S' same-b
-    (subst (λ (f : List Bool). Placing (chosen f) S' r (held (length ds) u) (g.D.Disks.shelf z) (g.D.Disks.shelf v)) sel
-    (subst (λ (m : ℕ). Placing (chosen c.journal.new.self.touched.columns) S' r (held m u) (g.D.Disks.shelf z) (g.D.Disks.shelf v)) many2
-    (subst (λ (m : ℕ). Placing (chosen c.journal.new.self.touched.columns) S' m (held (length ms) u) (g.D.Disks.shelf z) (g.D.Disks.shelf v)) at-r2 o))) in
+    λ o. unsaved_place S c.args.n c.args.s r j t u c.args.words.now some c.requires.size.1 c.locate-at.ensures.1 c.locate-at.ensures.0 k.proper.roster.most c.requires.size.0 within w p put q S' same-b o in
+    let placed : Placing (chosen c.journal.new.self.touched.columns) S' c.journal.new.self.stripe (held u) (g.D.Disks.shelf z) (g.D.Disks.shelf v) → Saved c.args.n c.args.s c.args.words.now S (g.D.Disks.shelf x) (g.D.Disks.shelf v) =
+    λ o. saved_place S c.args.n c.args.s r j t u c.args.words.now some c.requires.size.1 c.locate-at.ensures.1 c.locate-at.ensures.0 k.proper.roster.most c.requires.size.0 within w p put q S' same-b
+    (subst (λ (f : List Bool). Placing (chosen f) S' r (held u) (g.D.Disks.shelf z) (g.D.Disks.shelf v)) sel
+    (subst (λ (m : ℕ). Placing (chosen c.journal.new.self.touched.columns) S' m (held u) (g.D.Disks.shelf z) (g.D.Disks.shelf v)) at-r2 o)) in
     let at-s : says c.journal.new.b ≡ journalling S (stripe_of (c.args.n - 64) c.args.s) = same-b ∙ ap (λ (m : ℕ). journalling S m) c.locate-at.ensures.1 in
     (all-died, few, same, at-s, marks-v, unplaced, placed)
 

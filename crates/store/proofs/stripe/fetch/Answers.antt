@@ -16,7 +16,7 @@ returns-then-is_marked g c =
     }
 
 pub read_sector-requires : goal.read_sector-requires
-read_sector-requires g c = record { may = (c.requires.left, c.at-at.ensures.1, c.requires.place.1); lent = c.requires.lent }
+read_sector-requires g c = (c.requires.left, c.at-at.ensures.1, c.requires.place.1)
 
 pub returns : goal.returns
 returns g c =

@@ -9,7 +9,7 @@ pub write_sector-requires : goal.write_sector-requires
 write_sector-requires g c =
     let e : Employed (g.D.Disks.shelf c.args.d.now) c.at-at.result =
     subst (λ (i : ℕ). Employed (g.D.Disks.shelf c.args.d.now) i) (sym c.at-at.ensures.0) (c.requires.serving.employed c.args.p c.requires.place.0) in
-    record { may = ((c.requires.left, e.there, c.requires.place.1), e.used); lent = c.requires.lent }
+    ((c.requires.left, e.there, c.requires.place.1), e.used)
 
 pub returns-in_err-write_sector : goal.returns-in_err-write_sector
 returns-in_err-write_sector g c =

@@ -1,5 +1,6 @@
-use Rattle.std.proofs.Common.{◌≡◌, ℕ, ◌+◌, ◌-◌, ◌*◌, ◌<◌, ◌≤◌, Bool, length, get_or, subst, arith}
+use Rattle.std.proofs.Common.{◌≡◌, ℕ, ◌<◌, Bool, length, get_or, subst, arith}
 use Rattle.std.proofs.lemmas.Result.{MatchResult-from_err}
+use Rattle.field.specs.Stripe.{held}
 use Rattle.field.specs.Missing.{Within, Mends}
 use Rattle.field.proofs.Missings.{known_within}
 use Rattle.layout.proofs.Turning.{place_within}
@@ -16,60 +17,59 @@ pub fetch-requires : goal.fetch-requires
 fetch-requires g c =
     let ds = c.args.members.now.list in
     let w = c.loop-i.invariant.went in
-    let l : c.loop-i.i < length ds = omega (arith, c.many-k.ensures.is.0) in
-    let b = place_within (length ds) c.loop-i.i c.args.r (omega (arith, c.many-k.ensures.is)) l in
+    let l : c.loop-i.i < length ds = omega (arith, c.requires.lent) in
+    let b = place_within (length ds) c.loop-i.i c.args.r c.requires.serving.roster.least l in
     record {
       left = omega (arith, w.spent, c.requires.left, l);
-      place = (omega (arith, b, c.place_of-p.ensures), omega (arith, w.deaths.size, c.requires.size));
+      place = (omega (arith, b, c.place_of.ensures), omega (arith, w.deaths.size, c.requires.size));
       serving = serving_went w ds c.args.members.now.dead c.requires.serving;
-      lent = omega arith;
     }
 
 pub returns-in_err-fetch : goal.returns-in_err-fetch
 returns-in_err-fetch g c =
     record {
-      went = went_longer (omega (arith, c.many-k.ensures.is.0)) (went_then c.loop-i.invariant.went c.fetch.ensures.went);
+      went = went_longer (omega (arith, c.requires.lent)) (went_then c.loop-i.invariant.went c.fetch.ensures.went);
       how = MatchResult-from_err c.from_residual.result _ _ c.from_residual.ensures.0 (λ _. c.in_err-fetch.ensures.how);
     }
 
 pub loop-i-preserved : goal.loop-i-preserved
 loop-i-preserved g c =
     let ds = c.args.members.now.list in
-    let l : c.loop-i.i < length ds = omega (arith, c.many-k.ensures.is.0) in
-    let lt : 64 * c.loop-i.i + 64 ≤ length c.loop-i.stripe = omega (arith, l) in
-    let ly : length c.fetch.new.into ≡ 64 = omega arith in
-    let ek : 64 * c.loop-i.i + 64 - 64 * c.loop-i.i ≡ 64 = omega arith in
+    let l : c.loop-i.i < length ds = omega (arith, c.requires.lent) in
+    let lt : c.loop-i.i < length c.loop-i.stripe = omega (arith, l) in
     let w = c.fetch.ensures.went in
     let heard : Answered (disk_of ds c.args.r c.loop-i.i) c.args.s c.fetch.new.into c.in_ok-fetch.field-0 (g.D.Disks.shelf c.loop-i.d) (g.D.Disks.shelf c.fetch.new.d) =
-    subst (λ (p : ℕ). Answered (get_or ds p 0) c.args.s c.fetch.new.into c.in_ok-fetch.field-0 (g.D.Disks.shelf c.loop-i.d) (g.D.Disks.shelf c.fetch.new.d)) c.place_of-p.ensures
+    subst (λ (p : ℕ). Answered (get_or ds p 0) c.args.s c.fetch.new.into c.in_ok-fetch.field-0 (g.D.Disks.shelf c.loop-i.d) (g.D.Disks.shelf c.fetch.new.d)) c.place_of.ensures
     c.in_ok-fetch.ensures.how in
     elim c.if-not-branch.branch [
       | then-not-branch b ↦
           rw (b.missing-is, b.also-missing.ensures)
-          (loading_dead _ c.fetch.new.into lt ly ek c.loop-i.invariant w c.in_ok-fetch.field-0 b.if-not-branch.true heard
+          (loading_dead c.fetch.new.into lt c.loop-i.invariant w c.in_ok-fetch.field-0 b.if-not-branch.true heard
           (λ i j ij jn di dj dn.
-          no_third_column ds c.many-k.ensures.roster (g.D.Disks.shelf c.fetch.new.d) c.args.members.now.dead
+          no_third_column ds c.requires.serving.roster (g.D.Disks.shelf c.fetch.new.d) c.args.members.now.dead
           (serving_went (went_then c.loop-i.invariant.went w) ds c.args.members.now.dead c.requires.serving) c.args.r i j c.loop-i.i ij jn l di dj dn))
       | else-not-branch b ↦
           rw b.missing-is
-          (loading_alive _ c.fetch.new.into lt ly ek c.loop-i.invariant w
+          (loading_alive c.fetch.new.into lt c.loop-i.invariant w
           (subst (λ (o : Bool). Answered (disk_of ds c.args.r c.loop-i.i) c.args.s c.fetch.new.into o (g.D.Disks.shelf c.loop-i.d) (g.D.Disks.shelf c.fetch.new.d)) b.if-not-branch.false heard))
     ]
 
 pub mend-requires : goal.mend-requires
 mend-requires g c =
-    let e : c.loop-i.i ≡ c.many-k.result = omega arith in
+    let k = c.requires.serving.roster in
+    let e : c.loop-i.i ≡ length c.loop-i.stripe = omega arith in
     record {
-      few = (c.many-k.ensures.is.1.0, (c.many-k.ensures.is.1.1, subst (λ (n : ℕ). Within n c.loop-i.missing) e (known_within c.loop-i.i c.loop-i.missing _ _ c.loop-i.invariant.known)));
-      lent = omega (arith, c.many-k.ensures.is.0);
+      few = (omega (arith, c.requires.lent, k.least), omega (arith, c.requires.lent, k.most));
+      within = subst (λ (n : ℕ). Within n c.loop-i.missing) e (known_within c.loop-i.i c.loop-i.missing _ _ c.loop-i.invariant.known);
     }
 
 pub returns : goal.returns
 returns g c =
     let ds = c.args.members.now.list in
-    let e : c.loop-i.i ≡ length ds = omega (arith, c.many-k.ensures.is.0) in
+    let e : c.loop-i.i ≡ length ds = omega (arith, c.requires.lent) in
+    let n : length c.loop-i.stripe ≡ length ds = omega (arith, c.requires.lent) in
     let p = loading_is e c.loop-i.invariant in
     record {
       went = p.went;
-      how = loaded c.many-k.ensures.roster p (subst (λ (n : ℕ). Mends n c.loop-i.missing c.loop-i.stripe c.mend.new.stripe) c.many-k.ensures.is.0 c.mend.ensures.mended);
+      how = loaded c.requires.serving.roster p (subst (λ (m : ℕ). Mends m c.loop-i.missing (held c.loop-i.stripe) (held c.mend.new.stripe)) n c.mend.ensures.mended);
     }

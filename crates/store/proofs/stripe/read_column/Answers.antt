@@ -1,6 +1,6 @@
-use Rattle.std.proofs.Common.{◌≡◌, ℕ, ◌+◌, ◌-◌, ◌*◌, length, get_or, take, drop, ap, ◌∙◌, subst, arith}
+use Rattle.std.proofs.Common.{ℕ, [], length, get_or, subst, arith}
 use Rattle.std.proofs.lemmas.Result.{MatchResult-from_err}
-use Rattle.field.specs.Stripe.{column}
+use Rattle.field.proofs.Slices.{held_at}
 use Rattle.layout.proofs.Turning.{place_within}
 use Rattle.store.specs.Stripes.{Answered}
 use Rattle.store.proofs.Laws.{went_then, went_longer}
@@ -11,7 +11,7 @@ pub fetch-requires : goal.fetch-requires
 fetch-requires g c =
     let ds = c.args.members.now.list in
     let b = place_within (length ds) c.args.i c.args.r c.requires.serving.roster.least c.requires.size.1 in
-    record { left = omega (arith, c.requires.left); place = (omega (arith, b, c.place_of-p.ensures), c.requires.size.0); serving = c.requires.serving; lent = c.requires.lent.1 }
+    record { left = omega (arith, c.requires.left); place = (omega (arith, b, c.place_of-p.ensures), c.requires.size.0); serving = c.requires.serving }
 
 pub returns-in_err-fetch : goal.returns-in_err-fetch
 returns-in_err-fetch g c =
@@ -27,7 +27,7 @@ load-requires g c =
       left = omega (arith, w.spent, c.requires.left);
       size = omega (arith, w.deaths.size, c.requires.size.0);
       serving = serving_went w c.args.members.now.list c.args.members.now.dead c.requires.serving;
-      lent = c.requires.lent.0;
+      lent = c.requires.lent;
     }
 
 pub returns-in_err-missing : goal.returns-in_err-missing
@@ -39,9 +39,7 @@ returns-in_err-missing g c =
 
 pub returns : goal.returns
 returns g c =
-    let t = c.load.new.stripe in
-    let m : 64 * c.args.i + 64 - 64 * c.args.i ≡ 64 = omega arith in
-    let e : c.copy_from_slice.new.self ≡ column c.args.i c.load.new.stripe = c.copy_from_slice.ensures.after ∙ ap (λ (z : ℕ). take z (drop (64 * c.args.i) t)) m in
+    let e = held_at c.load.new.stripe c.args.i [] (omega (arith, c.requires.lent, c.requires.size.1)) in
     record {
       went = went_then c.fetch.ensures.went c.load.ensures.went;
       how = read_all _ _ _ c.requires.size.1 e c.fetch.ensures.went c.in_ok-fetch.ensures.how c.in_ok-missing.ensures.how;

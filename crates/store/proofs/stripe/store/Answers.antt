@@ -16,7 +16,7 @@ pub returns-in_err-store_members : goal.returns-in_err-store_members
 returns-in_err-store_members g c =
     let S = says c.args.b.now in
     record {
-      went = went_longer (omega arith) (spread_held (chosen c.args.which.now.columns) S c.args.s c.args.r (held (length S.members) c.args.stripe.now) c.requires.proper.roster c.store_members.ensures.went);
+      went = went_longer (omega arith) (spread_held (chosen c.args.which.now.columns) S c.args.s c.args.r (held c.args.stripe.now) c.requires.proper.roster c.store_members.ensures.went);
       how = MatchResult-from_err c.from_residual.result _ _ c.from_residual.ensures.0 (λ _. c.in_err-store_members.ensures.how);
     }
 
@@ -37,9 +37,8 @@ write_column-requires g c =
     let w = c.store_members.ensures.went in
     record {
       left = omega (arith, w.spent, c.requires.left, fills_extra c.args.b.now.rebuild c.in-Some.share.disk f.0 c.args.r f.1.0);
-      place = (omega (arith, w.deaths.size, c.requires.size), omega (arith, l, f.1.1));
+      place = omega (arith, w.deaths.size, c.requires.size);
       employed = w.deaths.employed _ (c.requires.employed _ f.0 c.args.r (inr f.1.0));
-      lent = omega (arith, c.requires.lent, c.many.ensures.is.0);
     }
 
 -- the column of the disk that is being filled
@@ -51,7 +50,7 @@ returns-in_err-write_column g c =
     record {
       went =
           went_longer (omega (arith, fills_extra c.args.b.now.rebuild c.in-Some.share.disk f.0 c.args.r f.1.0))
-          (went_then (spread_held sel S c.args.s c.args.r (held (length S.members) c.args.stripe.now) c.requires.proper.roster c.store_members.ensures.went)
+          (went_then (spread_held sel S c.args.s c.args.r (held c.args.stripe.now) c.requires.proper.roster c.store_members.ensures.went)
           (fill_held sel S c.args.s c.args.r c.in-Some.share.disk f.0 _ f.1.0 (true-T (ap sel (sym f.1.1) ∙ sym c.if-has.ensures)) c.write_column.ensures.went));
       how = MatchResult-from_err c.from_residual-in_err-write_column.result _ _ c.from_residual-in_err-write_column.ensures.0 (λ _. c.in_err-write_column.ensures.how);
     }
@@ -60,7 +59,7 @@ pub returns-in_ok-write_column : goal.returns-in_ok-write_column
 returns-in_ok-write_column g c =
     let S = says c.args.b.now in
     let sel = chosen c.args.which.now.columns in
-    let h = held (length S.members) c.args.stripe.now in
+    let h = held c.args.stripe.now in
     let f = c.in-Some.ensures in
     let w = c.in_ok-write_column.ensures.how in
     record {
@@ -71,7 +70,7 @@ returns-in_ok-write_column g c =
       how = (
         λ _. w.0,
         stored_fill sel S c.args.s c.args.r h c.requires.proper.roster c.requires.proper c.in_ok-store_members.ensures.how c.in-Some.share.disk f.0 _ f.1.0 f.1.3 c.write_column.ensures.went
-            (ap (λ (k : ℕ). held k c.args.stripe.now c.in-Some.share.column) c.many.ensures.is.0 ∙ ap h f.1.1) w.1,
+            (ap h f.1.1) w.1,
       );
     }
 
@@ -79,7 +78,7 @@ pub returns-else-has : goal.returns-else-has
 returns-else-has g c =
     let S = says c.args.b.now in
     let sel = chosen c.args.which.now.columns in
-    let h = held (length S.members) c.args.stripe.now in
+    let h = held c.args.stripe.now in
     let f = c.in-Some.ensures in
     let m = c.in_ok-store_members.ensures.how in
     record {
@@ -97,7 +96,7 @@ pub returns-in_default : goal.returns-in_default
 returns-in_default g c =
     let S = says c.args.b.now in
     let sel = chosen c.args.which.now.columns in
-    let h = held (length S.members) c.args.stripe.now in
+    let h = held c.args.stripe.now in
     let m = c.in_ok-store_members.ensures.how in
     record {
       went = went_longer (omega arith) (spread_held sel S c.args.s c.args.r h c.requires.proper.roster c.store_members.ensures.went);

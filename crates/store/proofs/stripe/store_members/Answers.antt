@@ -1,7 +1,7 @@
-use Rattle.std.proofs.Common.{◌≡◌, ℕ, ◌+◌, ◌-◌, ◌*◌, ◌<◌, List, length, get_or, take, drop, sym, ap, ◌∙◌, subst, arith, length-drop, length-take}
+use Rattle.std.proofs.Common.{◌≡◌, ℕ, ◌+◌, ◌<◌, List, [], length, get_or, sym, subst, arith}
 use Rattle.std.proofs.lemmas.Result.{MatchResult-from_err}
 use Rattle.field.specs.Stripe.{held}
-use Rattle.field.proofs.Putting.{held_in}
+use Rattle.field.proofs.Slices.{held_at}
 use Rattle.layout.proofs.Turning.{place_within}
 use Rattle.store.specs.Durable.{Here, Went, Shows}
 use Rattle.store.specs.Stripes.{chosen}
@@ -15,57 +15,53 @@ pub loop-i-init : goal.loop-i-init
 loop-i-init g c = storing_none _ _ _ _ _ _ _
 
 pub has-requires : goal.has-requires
-has-requires g c = omega (arith, c.many-i-end.ensures.is.1.1)
+has-requires g c = omega (arith, c.requires.lent, c.requires.serving.roster.most)
 
 -- the words that are lent are the column
-abbrev lent_column : ℕ → List ℕ → List ℕ
-lent_column i t = take (64 * i + 64 - 64 * i) (drop (64 * i) t)
-
-words_are : (i k : ℕ) (t : List ℕ) → i < k → lent_column i t ≡ held k t i
-words_are i k t l = let m : 64 * i + 64 - 64 * i ≡ 64 = omega arith in ap (λ (z : ℕ). take z (drop (64 * i) t)) m ∙ sym (held_in k t i l)
+lent_is : (ds : List ℕ) (i : ℕ) (t : List (List ℕ)) → length t ≡ length ds → i < length ds → get_or t i [] ≡ held t i
+lent_is ds i t e l = held_at t i [] (omega arith)
 
 pub lay-requires : goal.lay-requires
 lay-requires g c =
     let ds = c.args.members.now.list in
     let sel = chosen c.args.which.now.columns in
     let w = c.loop-i.invariant.went in
-    let l : c.loop-i.i < length ds = omega (arith, c.many-i-end.ensures.is.0) in
+    let l : c.loop-i.i < length ds = omega (arith, c.requires.lent) in
     let b = place_within (length ds) c.loop-i.i c.args.r c.requires.serving.roster.least l in
     let one = count_more c.loop-i.i sel (sym c.if-has.ensures) in
     let most = count_below (c.loop-i.i + 1) (length ds) sel (omega arith) in
     record {
       left = omega (arith, w.spent, c.requires.left, one, most);
-      place = (omega (arith, b, c.place_of-p.ensures), omega (arith, w.deaths.size, c.requires.size));
+      place = (omega (arith, b, c.place_of.ensures), omega (arith, w.deaths.size, c.requires.size));
       serving = serving_went w ds c.args.members.now.dead c.requires.serving;
-      lent = simp (length-take, length-drop) (omega (arith, l));
     }
 
 pub returns-in_err-lay : goal.returns-in_err-lay
 returns-in_err-lay g c =
     let ds = c.args.members.now.list in
     let sel = chosen c.args.which.now.columns in
-    let l : c.loop-i.i < length ds = omega (arith, c.many-i-end.ensures.is.0) in
+    let l : c.loop-i.i < length ds = omega (arith, c.requires.lent) in
     let most = count_below (c.loop-i.i + 1) (length ds) sel (omega arith) in
-    let w = subst (λ (p : ℕ). Went 1 (Here (get_or ds p 0) c.args.s (lent_column c.loop-i.i c.args.stripe.now)) (g.D.Disks.shelf c.loop-i.d) (g.D.Disks.seen c.loop-i.d) (g.D.Disks.shelf c.lay.new.d) (g.D.Disks.seen c.lay.new.d)) c.place_of-p.ensures c.lay.ensures.went in
+    let w = subst (λ (p : ℕ). Went 1 (Here (get_or ds p 0) c.args.s (get_or c.args.stripe.now c.loop-i.i [])) (g.D.Disks.shelf c.loop-i.d) (g.D.Disks.seen c.loop-i.d) (g.D.Disks.shelf c.lay.new.d) (g.D.Disks.seen c.lay.new.d)) c.place_of.ensures c.lay.ensures.went in
     record {
-      went = went_longer most (storing_went c.requires.serving.roster l c.loop-i.invariant _ (sym c.if-has.ensures) (words_are c.loop-i.i (length ds) c.args.stripe.now l) w);
+      went = went_longer most (storing_went c.requires.serving.roster l c.loop-i.invariant _ (sym c.if-has.ensures) (lent_is ds c.loop-i.i c.args.stripe.now c.requires.lent l) w);
       how = MatchResult-from_err c.from_residual.result _ _ c.from_residual.ensures.0 (λ _. c.in_err-lay.ensures.how);
     }
 
 pub loop-i-preserved : goal.loop-i-preserved
 loop-i-preserved g c =
     let ds = c.args.members.now.list in
-    let l : c.loop-i.i < length ds = omega (arith, c.many-i-end.ensures.is.0) in
+    let l : c.loop-i.i < length ds = omega (arith, c.requires.lent) in
     elim c.if-has.branch [
       | then-has+in_ok-lay b ↦
-          let w = subst (λ (p : ℕ). Went 1 (Here (get_or ds p 0) c.args.s (lent_column c.loop-i.i c.args.stripe.now)) (g.D.Disks.shelf c.loop-i.d) (g.D.Disks.seen c.loop-i.d) (g.D.Disks.shelf b.lay.new.d) (g.D.Disks.seen b.lay.new.d)) b.place_of-p.ensures b.lay.ensures.went in
-          let shows = subst (λ (p : ℕ). Shows (g.D.Disks.shelf b.lay.new.d) (get_or ds p 0) c.args.s (lent_column c.loop-i.i c.args.stripe.now)) b.place_of-p.ensures b.in_ok-lay.ensures.how.1 in
+          let w = subst (λ (p : ℕ). Went 1 (Here (get_or ds p 0) c.args.s (get_or c.args.stripe.now c.loop-i.i [])) (g.D.Disks.shelf c.loop-i.d) (g.D.Disks.seen c.loop-i.d) (g.D.Disks.shelf b.lay.new.d) (g.D.Disks.seen b.lay.new.d)) b.place_of.ensures b.lay.ensures.went in
+          let shows = subst (λ (p : ℕ). Shows (g.D.Disks.shelf b.lay.new.d) (get_or ds p 0) c.args.s (get_or c.args.stripe.now c.loop-i.i [])) b.place_of.ensures b.in_ok-lay.ensures.how.1 in
           rw b.d-is
-          (storing_more c.requires.serving.roster l c.loop-i.invariant _ (sym b.if-has.ensures) (words_are c.loop-i.i (length ds) c.args.stripe.now l) w b.in_ok-lay.ensures.how.0 shows)
+          (storing_more c.requires.serving.roster l c.loop-i.invariant _ (sym b.if-has.ensures) (lent_is ds c.loop-i.i c.args.stripe.now c.requires.lent l) w b.in_ok-lay.ensures.how.0 shows)
       | else-has b ↦ rw b.d-is (storing_skip c.requires.serving.roster l c.loop-i.invariant (sym b.if-has.ensures))
     ]
 
 pub returns : goal.returns
 returns g c =
-    let e : c.loop-i.i ≡ length c.args.members.now.list = omega (arith, c.many-i-end.ensures.is.0) in
+    let e : c.loop-i.i ≡ length c.args.members.now.list = omega (arith, c.requires.lent) in
     let p = storing_is e c.loop-i.invariant in record { went = p.went; how = p }

@@ -25,7 +25,7 @@ store-requires g c =
       proper = k.proper;
       serving = serving_kept c.args.b.now.members.dead k c.requires.marks;
       employed = k.employed;
-      lent = c.requires.lent.0;
+      lent = c.requires.lent;
     }
 
 pub returns-in_err-store : goal.returns-in_err-store
@@ -37,7 +37,7 @@ returns-in_err-store g c =
       deaths = w.deaths;
       spent = omega (arith, w.spent, all);
       how = MatchResult-from_err c.from_residual.result _ _ c.from_residual.ensures.0
-          (λ _. unjournalled_first S c.args.r (held (length S.members) c.args.stripe.now) (chosen c.all.result.columns) c.slot_of-slot.ensures w c.in_err-store.ensures.how);
+          (λ _. unjournalled_first S c.args.r (held c.args.stripe.now) (chosen c.all.result.columns) c.slot_of-slot.ensures w c.in_err-store.ensures.how);
     }
 
 pub commit-requires : goal.commit-requires
@@ -51,14 +51,13 @@ commit-requires g c =
       size = omega (arith, w.deaths.size, k.least);
       proper = proper_journalling S c.args.r k.proper (omega (arith, c.requires.place, k.most));
       employed = λ p l. w.deaths.employed _ (k.employed _ p 0 (member_holds S p 0 (three_members S p k.proper l)));
-      lent = c.requires.lent.1;
     }
 
 pub returns : goal.returns
 returns g c =
     let S = says c.args.b.now in
     let r = c.args.r in
-    let h = held (length S.members) c.args.stripe.now in
+    let h = held c.args.stripe.now in
     let sel = chosen c.all.result.columns in
     let k = c.requires.ready.1.sound.kept in
     let w = c.store.ensures.went in

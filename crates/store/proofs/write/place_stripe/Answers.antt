@@ -24,7 +24,7 @@ returns g c =
     let S = says c.args.b.now in
     let k = c.requires.sound.1.kept in
     let sel = chosen c.args.which.now.columns in
-    let h = held (length S.members) c.args.stripe.now in
+    let h = held c.args.stripe.now in
     let w = c.store.ensures.went in
     record {
       deaths = w.deaths;
