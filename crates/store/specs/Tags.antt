@@ -1,7 +1,9 @@
 -- What is asked under the eight tags, and the words that were lent with it, against what is seen.
 -- Assumes nothing.
-use Rattle.std.specs.Prelude.{◌≡◌, ℕ, ◌+◌, ◌%◌, ◌<◌, ◌≤◌, Bool, true, false, cond, not, ◌||◌, T, List, Some, None, Option, nat_le, nat_lt, slice_index_or}
+use Rattle.std.specs.Prelude.{◌≡◌, ℕ, ◌+◌, ◌%◌, ◌<◌, ◌≤◌, Bool, true, false, cond, not, ◌||◌, T, List, Some, None, Option, Ok, Err, Result, nat_le, nat_lt, slice_index_or}
 use Rattle.store.specs.Store.{Way, Free, Under, Over, core}
+use Rattle.store.specs.declared.refusal.Refusal.{Refusal}
+use Rattle.store.specs.declared.refusal.Refusal.TheVariants.{Tag, Sector, Unbuilt}
 use Rattle.store.specs.declared.Ask.{Ask}
 use Rattle.store.specs.declared.Ask.TheVariants.{Read, Write, Flush, Size, Add, Replace}
 
@@ -47,6 +49,17 @@ pub record First (t : ℕ) (a : Ask) (ts : List (Option Ask)) (cursor : ℕ) : T
 abbrev pub Due : Option (ℕ × Ask) → List (Option Ask) → ℕ → Type 0
 Due None ts cursor = (j : ℕ) → j < 8 → at ts ((cursor + j) % 8) ≡ None
 Due (Some e) ts cursor = First e.0 e.1 ts cursor
+
+-- the number by which a refusal is told
+abbrev pub number_of : Refusal → ℕ
+number_of Tag = 1
+number_of Sector = 3
+number_of Unbuilt = 9
+
+-- the number of why, or 0 where it is taken
+abbrev pub numbered : Result (Unit {0}) Refusal → ℕ
+numbered (Ok _) = 0
+numbered (Err why) = number_of why
 
 -- why a sector number is turned away, of a store of n sectors
 abbrev pub beyond : ℕ → Ask → ℕ

@@ -20,6 +20,7 @@ mod answers;
 mod commit;
 mod journal;
 mod recovery;
+mod refusal;
 mod requests;
 mod sectors;
 mod selection;
@@ -29,6 +30,7 @@ mod write;
 
 use layout::Superblock;
 use recovery::come_up;
+pub use refusal::Refusal;
 use tags::Tags;
 
 // What a disk answers. Dead: it has died, for ever. Dark: the power has gone, and every disk answers so from then on.
@@ -161,13 +163,13 @@ impl Store {
         ensures goes { (x : Shelf) (es : List Event) → Serving self.old room.old x es → Serving self.new room.new (answered result a x) (said result tag a words.now ∷ es) }
         ensures kept { ((0 < result → self.new ≡ self.old)) × ((0 < result → room.new ≡ room.old)) }
     {
-        let why = self.refusal(tag, a);
-        if why == 0 {
-            let at = 64 * tag as usize;
-            room[at..at + 64].copy_from_slice(words);
-            self.tags.note(tag, a);
+        if let Err(why) = self.admit(tag, a) {
+            return why.into();
         }
-        why
+        let at = 64 * tag as usize;
+        room[at..at + 64].copy_from_slice(words);
+        self.tags.note(tag, a);
+        0
     }
 
     // A turn, in which one that waits is done and told; what a read has read stands in `words`.

@@ -2,9 +2,10 @@
 ghost use Rattle.std.specs.Prelude.{◌≡◌, ℕ, ◌+◌, ◌-◌, ◌*◌, ◌^◌, ◌<◌, ◌≤◌, Bool, true, false, List, length, if◌then◌else◌, Some, MatchResult, nat_lt};
 ghost use Rattle.field.specs.Stripe.{column};
 ghost use Rattle.store.specs.Durable.{Deaths};
-ghost use Rattle.store.specs.Tags.{at, refusal_of};
+ghost use Rattle.store.specs.Tags.{at, numbered, refusal_of};
 ghost use Rattle.store.specs.Between.{ticks, Serving, Performed, Lost};
 
+use crate::refusal::Refusal;
 use crate::sectors::{read, write};
 use crate::{Ask, Disks, Gone, Reply, Store};
 
@@ -18,33 +19,25 @@ impl Store {
         data as u64 * (self.sectors - 64)
     }
 
-    // Why it is turned away, or 0: the tag first, then what isn't built, then the sector's number.
-    pub fn refusal(&self, tag: u32, a: Ask) -> u32
+    // Whether it is taken: the tag is looked at first, then what is built, then the sector's number.
+    pub fn admit(&self, tag: u32, a: Ask) -> Result<(), Refusal>
         requires { (64 ≤ self.now.sectors) × (self.now.sectors ≤ 4294967296) }
-        ensures { result ≡ refusal_of self.now.tags.asked ((length self.now.superblock.members.list - 2) * (self.now.sectors - 64)) tag a }
+        ensures { numbered result ≡ refusal_of self.now.tags.asked ((length self.now.superblock.members.list - 2) * (self.now.sectors - 64)) tag a }
     {
-        if tag >= 8 {
-            return 1;
-        }
-        if !self.tags.is_open(tag) {
-            return 1;
+        if tag >= 8 || !self.tags.is_open(tag) {
+            return Err(Refusal::Tag);
         }
         match a {
-            Ask::Read(s) => self.beyond(s),
-            Ask::Write(s) => self.beyond(s),
-            Ask::Flush => 0,
-            Ask::Size => 0,
-            Ask::Add(_) => 9,
-            Ask::Replace(_, _) => 9,
+            Ask::Read(s) | Ask::Write(s) => {
+                if s < self.size() {
+                    Ok(())
+                } else {
+                    Err(Refusal::Sector)
+                }
+            }
+            Ask::Flush | Ask::Size => Ok(()),
+            Ask::Add(_) | Ask::Replace(_, _) => Err(Refusal::Unbuilt),
         }
-    }
-
-    // 3 if there is no sector s.
-    fn beyond(&self, s: u64) -> u32
-        requires { (64 ≤ self.now.sectors) × (self.now.sectors ≤ 4294967296) }
-        ensures { result ≡ (if nat_lt s ((length self.now.superblock.members.list - 2) * (self.now.sectors - 64)) then 0 else 3) }
-    {
-        if s < self.size() { 0 } else { 3 }
     }
 
     // What is asked under the tag, done. The first 512 words of the room are what was lent with the tags; behind them a stripe has room.
@@ -87,8 +80,7 @@ impl Store {
             }
             Ask::Flush => Ok(Reply::Done),
             Ask::Size => Ok(Reply::Many(self.size())),
-            Ask::Add(_) => Ok(Reply::No(9)),
-            Ask::Replace(_, _) => Ok(Reply::No(9)),
+            Ask::Add(_) | Ask::Replace(_, _) => Ok(Reply::No(Refusal::Unbuilt.into())),
         }
     }
 }

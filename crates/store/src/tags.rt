@@ -27,10 +27,7 @@ impl Tags {
         requires { t < 8 }
         ensures { result ≡ is_open (at self.now.asked t) }
     {
-        match self.asked[t as usize] {
-            None => true,
-            Some(_) => false,
-        }
+        self.asked[t as usize].is_none()
     }
 
     // a is asked under tag t.
@@ -57,8 +54,7 @@ impl Tags {
     {
         for k in 0..8u32 {
             let t = (self.cursor + k) % 8;
-            let asked = self.asked[t as usize];
-            if let Some(a) = asked {
+            if let Some(a) = self.asked[t as usize] {
                 return Some((t, a));
             }
         }

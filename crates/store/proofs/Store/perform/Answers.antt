@@ -1,4 +1,4 @@
-use Rattle.std.proofs.Common.{◌≡◌, ℕ, ◌+◌, ◌-◌, ◌*◌, List, length, take, drop, Some, sym, refl, ap, ◌∙◌, subst, arith}
+use Rattle.std.proofs.Common.{◌≡◌, ℕ, ◌+◌, ◌-◌, ◌*◌, List, length, take, drop, Some, sym, refl, ap, ◌∙◌, subst, inl, inr, arith}
 use Rattle.std.proofs.lemmas.Result.{MatchResult-from_err}
 use Rattle.field.specs.Stripe.{column}
 use Rattle.layout.specs.Super.{says}
@@ -139,8 +139,7 @@ returns-in-Size g c =
 
 pub returns-in-Add : goal.returns-in-Add
 unfolding core
-returns-in-Add g c = absurd (asks_for c.requires.held c.args.tag c.requires.taken.0 (Add c.in-Add.field-0) (c.requires.taken.1 ∙ ap Some c.in-Add.is)).built
-
-pub returns-in-Replace : goal.returns-in-Replace
-unfolding core
-returns-in-Replace g c = absurd (asks_for c.requires.held c.args.tag c.requires.taken.0 (Replace c.in-Replace.field-0 c.in-Replace.field-1) (c.requires.taken.1 ∙ ap Some c.in-Replace.is)).built
+returns-in-Add g c = absurd (elim c.in-Add.is [
+  | inl e ↦ (asks_for c.requires.held c.args.tag c.requires.taken.0 (Add e.0) (c.requires.taken.1 ∙ ap Some e.1)).built
+  | inr e ↦ (asks_for c.requires.held c.args.tag c.requires.taken.0 (Replace e.0 e.1) (c.requires.taken.1 ∙ ap Some e.2)).built
+])
