@@ -1,11 +1,17 @@
 -- A commit: the moment in which a next superblock comes into force.
 -- Assumes nothing.
 use Rattle.std.specs.Prelude.{◌≡◌, ℕ, ◌<◌, true, false, ◌⊎◌, List, slice_index}
-use Rattle.layout.specs.Super.{Super, super_of}
+use Rattle.layout.specs.Super.{Super, super_of, Proper}
 use Rattle.store.specs.Event.{Event}
 use Rattle.store.specs.Shelf.{Shelf}
-use Rattle.store.specs.Durable.{Among, Shows, Settled, Nowhere, Went}
+use Rattle.store.specs.Durable.{Among, Shows, Settled, Employed, Nowhere, Went}
 use Rattle.store.specs.Keeping.{Columns, Kept, Sound, Torn}
+
+-- S can be written to its members at places 0, 1 and 2
+pub record CanHead (x : Shelf) (S : Super) : Type 0 where
+  pub size : 0 < x.sectors
+  pub proper : Proper S
+  pub employed : (p : ℕ) → p < 3 → Employed x (slice_index S.members p)
 
 -- only words that say S are written, and only to sector 0 of the members at places 0, 1 and 2
 abbrev pub Heading : Super → (d s : ℕ) → List ℕ → Type 0

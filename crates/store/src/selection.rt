@@ -1,16 +1,29 @@
 // Which columns of a stripe are meant: a set of numbers below twelve. It touches nothing.
-ghost use Rattle.std.specs.Prelude.{◌≡◌, ℕ, ◌<◌, Bool, true, false, List, set, replicate, slice_set};
+ghost use Rattle.std.specs.Prelude.{◌≡◌, ℕ, ◌<◌, true, false, replicate, slice_set};
 ghost use Rattle.store.specs.Stripes.{chosen};
 
-#[derive(Clone, Copy)]
+use std::marker::Model;
+
+#[derive(Clone, Copy, PartialEq, Eq, Debug)]
 pub struct Selection {
     columns: [bool; 12],
+}
+
+// It is seen as twelve answers, one for each column.
+impl Model for Selection {
+    ghost use Rattle.std.specs.Prelude.{Bool, List};
+
+    ghost Value = { List Bool };
+
+    ghost view = { λ s. s.columns };
+
+    ghost inverse = { λ v. record { columns = v } };
 }
 
 impl Selection {
     // Every column.
     pub fn all() -> Selection
-        ensures { (i : ℕ) → i < 12 → chosen result.columns i ≡ true }
+        ensures { (i : ℕ) → i < 12 → chosen result i ≡ true }
     {
         Selection {
             columns: [true; 12],
@@ -19,19 +32,18 @@ impl Selection {
 
     // P and Q.
     pub fn parity() -> Selection
-        ensures { result.columns ≡ slice_set (slice_set (replicate 12 false) 0 true) 1 true }
+        ensures { result ≡ slice_set (slice_set (replicate 12 false) 0 true) 1 true }
     {
-        Selection {
-            columns: [
-                true, true, false, false, false, false, false, false, false, false, false, false,
-            ],
-        }
+        let mut columns = [false; 12];
+        columns[0] = true;
+        columns[1] = true;
+        Selection { columns }
     }
 
     // Column i too.
     pub fn add(&mut self, i: usize)
         requires { i < 12 }
-        ensures { self.new.columns ≡ slice_set self.old.columns i true }
+        ensures { self.new ≡ slice_set self.old i true }
     {
         self.columns[i] = true;
     }
@@ -39,7 +51,7 @@ impl Selection {
     // Whether column i is meant.
     pub fn has(&self, i: usize) -> bool
         requires { i < 12 }
-        ensures { result ≡ chosen self.now.columns i }
+        ensures { result ≡ chosen self.now i }
     {
         self.columns[i]
     }

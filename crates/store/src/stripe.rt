@@ -129,12 +129,12 @@ pub fn store_members<D: Disks>(
     stripe: &[Sector],
     which: &Selection,
 ) -> Result<(), Gone>
-    requires left { count (length members.now.list) (chosen which.now.columns) ≤ (D.shelf d.old).left }
+    requires left { count (length members.now.list) (chosen which.now) ≤ (D.shelf d.old).left }
     requires size { s < (D.shelf d.old).sectors }
     requires serving { Serving (D.shelf d.old) members.now.list members.now.dead }
     requires lent { length stripe.now ≡ length members.now.list }
-    ensures went { Went (count (length members.now.list) (chosen which.now.columns)) (Spread (chosen which.now.columns) members.now.list s r (held stripe.now)) (D.shelf d.old) (D.seen d.old) (D.shelf d.new) (D.seen d.new) }
-    ensures how { MatchResult result (λ _. Storing (length members.now.list) (chosen which.now.columns) members.now.list s r (held stripe.now) (D.shelf d.old) (D.seen d.old) (D.shelf d.new) (D.seen d.new)) (λ _. (D.shelf d.new).on ≡ false) }
+    ensures went { Went (count (length members.now.list) (chosen which.now)) (Spread (chosen which.now) members.now.list s r (held stripe.now)) (D.shelf d.old) (D.seen d.old) (D.shelf d.new) (D.seen d.new) }
+    ensures how { MatchResult result (λ _. Storing (length members.now.list) (chosen which.now) members.now.list s r (held stripe.now) (D.shelf d.old) (D.seen d.old) (D.shelf d.new) (D.seen d.new)) (λ _. (D.shelf d.new).on ≡ false) }
 {
     for (i, column) in stripe.iter().enumerate() {
         if which.has(i) {
@@ -195,14 +195,14 @@ pub fn store<D: Disks>(
     stripe: &[Sector],
     which: &Selection,
 ) -> Result<(), Gone>
-    requires left { count (length b.now.members.list) (chosen which.now.columns) + extra b.now.rebuild ≤ (D.shelf d.old).left }
+    requires left { count (length b.now.members.list) (chosen which.now) + extra b.now.rebuild ≤ (D.shelf d.old).left }
     requires size { s < (D.shelf d.old).sectors }
     requires proper { Proper (says b.now) }
     requires serving { Serving (D.shelf d.old) b.now.members.list b.now.members.dead }
     requires employed { (e p t : ℕ) → Holds (says b.now) e p t → Employed (D.shelf d.old) e }
     requires lent { length stripe.now ≡ length b.now.members.list }
-    ensures went { Went (count (length b.now.members.list) (chosen which.now.columns) + extra b.now.rebuild) (Held (chosen which.now.columns) (says b.now) s r) (D.shelf d.old) (D.seen d.old) (D.shelf d.new) (D.seen d.new) }
-    ensures how { MatchResult result (λ _. ((D.shelf d.old).on ≡ true → (D.shelf d.new).on ≡ true) × Stored (chosen which.now.columns) (says b.now) s r (held stripe.now) (D.shelf d.new)) (λ _. (D.shelf d.new).on ≡ false) }
+    ensures went { Went (count (length b.now.members.list) (chosen which.now) + extra b.now.rebuild) (Held (chosen which.now) (says b.now) s r) (D.shelf d.old) (D.seen d.old) (D.shelf d.new) (D.seen d.new) }
+    ensures how { MatchResult result (λ _. ((D.shelf d.old).on ≡ true → (D.shelf d.new).on ≡ true) × Stored (chosen which.now) (says b.now) s r (held stripe.now) (D.shelf d.new)) (λ _. (D.shelf d.new).on ≡ false) }
 {
     store_members(d, &b.members, s, r, stripe, which)?;
     if let Some(share) = share_of(b, r) {

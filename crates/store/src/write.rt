@@ -52,14 +52,14 @@ fn place_stripe<D: Disks>(
     stripe: &[Sector],
     which: &Selection,
 ) -> Result<(), Gone>
-    requires left { count (length b.now.members.list) (chosen which.now.columns) + extra b.now.rebuild ≤ (D.shelf d.old).left }
+    requires left { count (length b.now.members.list) (chosen which.now) + extra b.now.rebuild ≤ (D.shelf d.old).left }
     requires place { (64 + r < (D.shelf d.old).sectors) × (((D.shelf d.old).sectors ≤ 4294967296) × ((says b.now).journal ≡ Some r)) }
     requires sound { (c : Columns) × Sound (D.shelf d.old) (says b.now) c }
     requires marks { MarksTrue (D.shelf d.old) b.now.members.list b.now.members.dead }
     requires lent { length stripe.now ≡ length b.now.members.list }
     ensures deaths { Deaths (D.shelf d.old) (D.seen d.old) (D.shelf d.new) (D.seen d.new) }
-    ensures spent { (D.shelf d.old).left ≤ (D.shelf d.new).left + (count (length b.now.members.list) (chosen which.now.columns) + extra b.now.rebuild) }
-    ensures how { MatchResult result (λ _. Placing (chosen which.now.columns) (says b.now) r (held stripe.now) (D.shelf d.old) (D.shelf d.new)) (λ _. Unplaced (says b.now) (D.shelf d.old) (D.shelf d.new)) }
+    ensures spent { (D.shelf d.old).left ≤ (D.shelf d.new).left + (count (length b.now.members.list) (chosen which.now) + extra b.now.rebuild) }
+    ensures how { MatchResult result (λ _. Placing (chosen which.now) (says b.now) r (held stripe.now) (D.shelf d.old) (D.shelf d.new)) (λ _. Unplaced (says b.now) (D.shelf d.old) (D.shelf d.new)) }
 {
     store(d, b, 64 + r, r, stripe, which)
 }
@@ -92,7 +92,7 @@ pub struct Lasting {
 impl<'a, D: Disks> StripeWrite<'a, D> {
     // Stripe r, of which nothing is known yet; P and Q will be new.
     pub fn begin(d: &'a mut D, r: u64) -> StripeWrite<'a, D>
-        ensures { (result.disks.ghost_name ≡ d.entry.ghost_name) × ((result.disks.now ≡ d.old) × ((result.stripe ≡ r) × (result.touched.columns ≡ slice_set (slice_set (replicate 12 false) 0 true) 1 true))) }
+        ensures { (result.disks.ghost_name ≡ d.entry.ghost_name) × ((result.disks.now ≡ d.old) × ((result.stripe ≡ r) × (result.touched ≡ slice_set (slice_set (replicate 12 false) 0 true) 1 true))) }
     {
         StripeWrite {
             disks: d,
@@ -120,7 +120,7 @@ impl<'a, D: Disks> StripeWrite<'a, D> {
         requires few { Few (length columns.old) }
         requires within { 2 + j < length columns.old }
         ensures same { (self.new.disks.ghost_name ≡ self.old.disks.ghost_name) × ((self.new.disks.now ≡ self.old.disks.now) × (self.new.stripe ≡ self.old.stripe)) }
-        ensures touched { self.new.touched.columns ≡ slice_set self.old.touched.columns (2 + j) true }
+        ensures touched { self.new.touched ≡ slice_set self.old.touched (2 + j) true }
         ensures put { Put (length columns.old) j words.now (held columns.old) (held columns.new) }
     {
         let _ = put(columns, j, words);
@@ -152,14 +152,14 @@ impl<'a, D: Disks> StripeWrite<'a, D> {
 
     // What is new of it, in its place.
     pub fn place(self, l: Lasting, b: &Superblock, columns: &[Sector]) -> Result<(), Gone>
-        requires left { count (length b.now.members.list) (chosen self.touched.columns) + extra b.now.rebuild ≤ (D.shelf self.disks.now).left }
+        requires left { count (length b.now.members.list) (chosen self.touched) + extra b.now.rebuild ≤ (D.shelf self.disks.now).left }
         requires place { (64 + self.stripe < (D.shelf self.disks.now).sectors) × (((D.shelf self.disks.now).sectors ≤ 4294967296) × (((says b.now).journal ≡ Some self.stripe) × (l.stripe ≡ self.stripe))) }
         requires sound { (c : Columns) × Sound (D.shelf self.disks.now) (says b.now) c }
         requires marks { MarksTrue (D.shelf self.disks.now) b.now.members.list b.now.members.dead }
         requires lent { length columns.now ≡ length b.now.members.list }
         ensures deaths { Deaths (D.shelf self.entry.disks.now) (D.seen self.entry.disks.now) (D.shelf self.exit.0.now) (D.seen self.exit.0.now) }
-        ensures spent { (D.shelf self.entry.disks.now).left ≤ (D.shelf self.exit.0.now).left + (count (length b.now.members.list) (chosen self.entry.touched.columns) + extra b.now.rebuild) }
-        ensures how { MatchResult result (λ _. Placing (chosen self.entry.touched.columns) (says b.now) self.entry.stripe (held columns.now) (D.shelf self.entry.disks.now) (D.shelf self.exit.0.now)) (λ _. Unplaced (says b.now) (D.shelf self.entry.disks.now) (D.shelf self.exit.0.now)) }
+        ensures spent { (D.shelf self.entry.disks.now).left ≤ (D.shelf self.exit.0.now).left + (count (length b.now.members.list) (chosen self.entry.touched) + extra b.now.rebuild) }
+        ensures how { MatchResult result (λ _. Placing (chosen self.entry.touched) (says b.now) self.entry.stripe (held columns.now) (D.shelf self.entry.disks.now) (D.shelf self.exit.0.now)) (λ _. Unplaced (says b.now) (D.shelf self.entry.disks.now) (D.shelf self.exit.0.now)) }
     {
         let Lasting { stripe: _ } = l;
         let StripeWrite {

@@ -19,9 +19,11 @@ head-requires g c =
     let w = c.sync_all.ensures.went in
     record {
       left = omega (arith, w.spent, c.requires.left);
-      size = omega (arith, w.deaths.size, c.requires.size);
-      proper = c.requires.proper;
-      employed = λ p l. w.deaths.employed _ (c.requires.employed p l);
+      heads = record {
+        size = omega (arith, w.deaths.size, c.requires.heads.size);
+        proper = c.requires.heads.proper;
+        employed = λ p l. w.deaths.employed _ (c.requires.heads.employed p l);
+      };
     }
 
 pub returns : goal.returns

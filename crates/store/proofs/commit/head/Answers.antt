@@ -10,9 +10,7 @@ pub write_copies-requires : goal.write_copies-requires
 write_copies-requires g c =
     record {
       left = omega (arith, c.requires.left);
-      size = c.requires.size;
-      proper = c.requires.proper;
-      employed = c.requires.employed;
+      heads = c.requires.heads;
       lent = ap super_of c.encode.ensures ∙ read_again (says c.args.next.now);
     }
 

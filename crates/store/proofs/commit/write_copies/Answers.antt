@@ -22,8 +22,8 @@ write_sector-requires g c =
     let w = c.loop-at.invariant.went in
     let ds = c.disks.ensures in
     let lt : c.loop-at.at-index < 3 = omega (arith, three _ _ ds.is ds.roster.least) in
-    let e : Employed (g.D.Disks.shelf c.loop-at.d) (get_or (take 3 c.disks.result.now) c.loop-at.at-index 0) = rw (three_at _ _ ds.is c.loop-at.at-index lt) (w.deaths.employed _ (c.requires.employed c.loop-at.at-index lt)) in
-    ((omega (arith, w.spent, c.requires.left), e.there, omega (arith, w.deaths.size, c.requires.size)), e.used)
+    let e : Employed (g.D.Disks.shelf c.loop-at.d) (get_or (take 3 c.disks.result.now) c.loop-at.at-index 0) = rw (three_at _ _ ds.is c.loop-at.at-index lt) (w.deaths.employed _ (c.requires.heads.employed c.loop-at.at-index lt)) in
+    ((omega (arith, w.spent, c.requires.left), e.there, omega (arith, w.deaths.size, c.requires.heads.size)), e.used)
 
 pub returns-in_err-write_sector : goal.returns-in_err-write_sector
 returns-in_err-write_sector g c =

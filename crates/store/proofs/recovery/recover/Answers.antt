@@ -27,9 +27,11 @@ head-requires g c =
     let e = sym c.decode-found.ensures.0 in
     record {
       left = omega (arith, p.went.spent, c.requires.left);
-      size = omega (arith, p.went.deaths.size, o.torn.old.least);
-      proper = subst Proper e (found_proper p _ _ _ _ o.torn);
-      employed = λ i l. subst (λ (Q : Super). Employed (g.D.Disks.shelf c.look.new.d) (get_or Q.members i 0)) e (found_employed p _ _ _ _ o.torn i l);
+      heads = record {
+        size = omega (arith, p.went.deaths.size, o.torn.old.least);
+        proper = subst Proper e (found_proper p _ _ _ _ o.torn);
+        employed = λ i l. subst (λ (Q : Super). Employed (g.D.Disks.shelf c.look.new.d) (get_or Q.members i 0)) e (found_employed p _ _ _ _ o.torn i l);
+      };
     }
 
 pub returns-in_err-head : goal.returns-in_err-head

@@ -165,10 +165,10 @@ place-requires g c =
     let many2 : length c.journal.new.b.members.list ≡ length ds = ap (λ (Q : Super). length Q.members) same-b in
     let adds : extra c.journal.new.b.rebuild ≡ extra b.rebuild = ap (λ (Q : Super). extra Q.rebuild) same-b in
     let died : Deaths (g.D.Disks.shelf x) (g.D.Disks.seen x) (g.D.Disks.shelf z) (g.D.Disks.seen z) = deaths_then w.deaths c.journal.ensures.deaths in
-    let sel : c.journal.new.self.touched.columns ≡ touching j =
-    ap (λ (v : Selection). v.columns) c.journal.ensures.same.1.1 ∙ (c.take.ensures.touched ∙ ap (λ (v : List Bool). set v (2 + j) true) (ap (λ (v : Selection). v.columns) c.load.ensures.same.1.1 ∙ c.begin-change.ensures.1.1.1)) in
+    let sel : c.journal.new.self.touched ≡ touching j =
+    c.journal.ensures.same.1.1 ∙ (c.take.ensures.touched ∙ ap (λ (v : List Bool). set v (2 + j) true) (c.load.ensures.same.1.1 ∙ c.begin-change.ensures.1.1.1)) in
     let ms = c.journal.new.b.members.list in
-    let three : count (length ms) (chosen c.journal.new.self.touched.columns) ≤ 3 = subst (λ (v : List Bool). count (length ms) (chosen v) ≤ 3) (sym sel) (few_touched (length ms) j) in
+    let three : count (length ms) (chosen c.journal.new.self.touched) ≤ 3 = subst (λ (v : List Bool). count (length ms) (chosen v) ≤ 3) (sym sel) (few_touched (length ms) j) in
     let at-r2 : c.journal.new.self.stripe ≡ r = c.journal.ensures.same.1.0 ∙ at-r in
     let l = at_stripe c.args.n _ c.args.s r j some c.requires.size.1 c.locate-at.ensures.1 c.locate-at.ensures.0 in
     let dead : Each c.in_ok-missing.missing (λ i. (i < length ds) × ((g.D.Disks.shelf y).alive (disk_of ds r i) ≡ false)) = p.dead in
@@ -187,7 +187,7 @@ place-requires g c =
       lent = omega (arith, many2, long, long2, c.requires.lent);
     }
 
-facts : (g : Over) (c : goal.After-d-2-1 g) → (Deaths (g.D.Disks.shelf c.args.d.now) (g.D.Disks.seen c.args.d.now) (g.D.Disks.shelf c.place.new.self.0) (g.D.Disks.seen c.place.new.self.0)) × ((g.D.Disks.shelf c.args.d.now).left ≤ (g.D.Disks.shelf c.place.new.self.0).left + (2 * length c.args.b.now.members.list + 2 * extra c.args.b.now.rebuild + 8)) × (c.journal.new.self.disks.ghost_name ≡ c.begin-change.result.disks.ghost_name) × (says c.journal.new.b ≡ journalling (says c.args.b.now) (stripe_of (c.args.n - 64) c.args.s)) × (MarksTrue (g.D.Disks.shelf c.place.new.self.0) c.journal.new.b.members.list c.journal.new.b.members.dead) × (Unplaced (says c.journal.new.b) (g.D.Disks.shelf c.journal.new.self.disks.now) (g.D.Disks.shelf c.place.new.self.0) → Unsaved c.args.n c.args.s c.args.words.now (says c.args.b.now) (g.D.Disks.shelf c.args.d.now) (g.D.Disks.shelf c.place.new.self.0)) × (Placing (chosen c.journal.new.self.touched.columns) (says c.journal.new.b) c.journal.new.self.stripe (held c.take.new.columns) (g.D.Disks.shelf c.journal.new.self.disks.now) (g.D.Disks.shelf c.place.new.self.0) → Saved c.args.n c.args.s c.args.words.now (says c.args.b.now) (g.D.Disks.shelf c.args.d.now) (g.D.Disks.shelf c.place.new.self.0))
+facts : (g : Over) (c : goal.After-d-2-1 g) → (Deaths (g.D.Disks.shelf c.args.d.now) (g.D.Disks.seen c.args.d.now) (g.D.Disks.shelf c.place.new.self.0) (g.D.Disks.seen c.place.new.self.0)) × ((g.D.Disks.shelf c.args.d.now).left ≤ (g.D.Disks.shelf c.place.new.self.0).left + (2 * length c.args.b.now.members.list + 2 * extra c.args.b.now.rebuild + 8)) × (c.journal.new.self.disks.ghost_name ≡ c.begin-change.result.disks.ghost_name) × (says c.journal.new.b ≡ journalling (says c.args.b.now) (stripe_of (c.args.n - 64) c.args.s)) × (MarksTrue (g.D.Disks.shelf c.place.new.self.0) c.journal.new.b.members.list c.journal.new.b.members.dead) × (Unplaced (says c.journal.new.b) (g.D.Disks.shelf c.journal.new.self.disks.now) (g.D.Disks.shelf c.place.new.self.0) → Unsaved c.args.n c.args.s c.args.words.now (says c.args.b.now) (g.D.Disks.shelf c.args.d.now) (g.D.Disks.shelf c.place.new.self.0)) × (Placing (chosen c.journal.new.self.touched) (says c.journal.new.b) c.journal.new.self.stripe (held c.take.new.columns) (g.D.Disks.shelf c.journal.new.self.disks.now) (g.D.Disks.shelf c.place.new.self.0) → Saved c.args.n c.args.s c.args.words.now (says c.args.b.now) (g.D.Disks.shelf c.args.d.now) (g.D.Disks.shelf c.place.new.self.0))
 facts g c =
     let b = c.args.b.now in
     let S = says c.args.b.now in
@@ -222,10 +222,10 @@ facts g c =
     let many2 : length c.journal.new.b.members.list ≡ length ds = ap (λ (Q : Super). length Q.members) same-b in
     let adds : extra c.journal.new.b.rebuild ≡ extra b.rebuild = ap (λ (Q : Super). extra Q.rebuild) same-b in
     let died : Deaths (g.D.Disks.shelf x) (g.D.Disks.seen x) (g.D.Disks.shelf z) (g.D.Disks.seen z) = deaths_then w.deaths c.journal.ensures.deaths in
-    let sel : c.journal.new.self.touched.columns ≡ touching j =
-    ap (λ (v : Selection). v.columns) c.journal.ensures.same.1.1 ∙ (c.take.ensures.touched ∙ ap (λ (v : List Bool). set v (2 + j) true) (ap (λ (v : Selection). v.columns) c.load.ensures.same.1.1 ∙ c.begin-change.ensures.1.1.1)) in
+    let sel : c.journal.new.self.touched ≡ touching j =
+    c.journal.ensures.same.1.1 ∙ (c.take.ensures.touched ∙ ap (λ (v : List Bool). set v (2 + j) true) (c.load.ensures.same.1.1 ∙ c.begin-change.ensures.1.1.1)) in
     let ms = c.journal.new.b.members.list in
-    let three : count (length ms) (chosen c.journal.new.self.touched.columns) ≤ 3 = subst (λ (v : List Bool). count (length ms) (chosen v) ≤ 3) (sym sel) (few_touched (length ms) j) in
+    let three : count (length ms) (chosen c.journal.new.self.touched) ≤ 3 = subst (λ (v : List Bool). count (length ms) (chosen v) ≤ 3) (sym sel) (few_touched (length ms) j) in
     let at-r2 : c.journal.new.self.stripe ≡ r = c.journal.ensures.same.1.0 ∙ at-r in
     let l = at_stripe c.args.n _ c.args.s r j some c.requires.size.1 c.locate-at.ensures.1 c.locate-at.ensures.0 in
     let dead : Each c.in_ok-missing.missing (λ i. (i < length ds) × ((g.D.Disks.shelf y).alive (disk_of ds r i) ≡ false)) = p.dead in
@@ -239,10 +239,10 @@ facts g c =
     let marks-v : MarksTrue (g.D.Disks.shelf v) ms c.journal.new.b.members.dead = marks_deaths c.place.ensures.deaths ms _ marks-z in
     let unplaced : Unplaced S' (g.D.Disks.shelf z) (g.D.Disks.shelf v) → Unsaved c.args.n c.args.s c.args.words.now S (g.D.Disks.shelf x) (g.D.Disks.shelf v) =
     λ o. unsaved_place S c.args.n c.args.s r j t u c.args.words.now some c.requires.size.1 c.locate-at.ensures.1 c.locate-at.ensures.0 k.proper.roster.most c.requires.size.0 within w p put q S' same-b o in
-    let placed : Placing (chosen c.journal.new.self.touched.columns) S' c.journal.new.self.stripe (held u) (g.D.Disks.shelf z) (g.D.Disks.shelf v) → Saved c.args.n c.args.s c.args.words.now S (g.D.Disks.shelf x) (g.D.Disks.shelf v) =
+    let placed : Placing (chosen c.journal.new.self.touched) S' c.journal.new.self.stripe (held u) (g.D.Disks.shelf z) (g.D.Disks.shelf v) → Saved c.args.n c.args.s c.args.words.now S (g.D.Disks.shelf x) (g.D.Disks.shelf v) =
     λ o. saved_place S c.args.n c.args.s r j t u c.args.words.now some c.requires.size.1 c.locate-at.ensures.1 c.locate-at.ensures.0 k.proper.roster.most c.requires.size.0 within w p put q S' same-b
     (subst (λ (f : List Bool). Placing (chosen f) S' r (held u) (g.D.Disks.shelf z) (g.D.Disks.shelf v)) sel
-    (subst (λ (m : ℕ). Placing (chosen c.journal.new.self.touched.columns) S' m (held u) (g.D.Disks.shelf z) (g.D.Disks.shelf v)) at-r2 o)) in
+    (subst (λ (m : ℕ). Placing (chosen c.journal.new.self.touched) S' m (held u) (g.D.Disks.shelf z) (g.D.Disks.shelf v)) at-r2 o)) in
     let at-s : says c.journal.new.b ≡ journalling S (stripe_of (c.args.n - 64) c.args.s) = same-b ∙ ap (λ (m : ℕ). journalling S m) c.locate-at.ensures.1 in
     (all-died, few, same, at-s, marks-v, unplaced, placed)
 

@@ -16,7 +16,7 @@ pub returns-in_err-store_members : goal.returns-in_err-store_members
 returns-in_err-store_members g c =
     let S = says c.args.b.now in
     record {
-      went = went_longer (omega arith) (spread_held (chosen c.args.which.now.columns) S c.args.s c.args.r (held c.args.stripe.now) c.requires.proper.roster c.store_members.ensures.went);
+      went = went_longer (omega arith) (spread_held (chosen c.args.which.now) S c.args.s c.args.r (held c.args.stripe.now) c.requires.proper.roster c.store_members.ensures.went);
       how = MatchResult-from_err c.from_residual.result _ _ c.from_residual.ensures.0 (λ _. c.in_err-store_members.ensures.how);
     }
 
@@ -45,7 +45,7 @@ write_column-requires g c =
 pub returns-in_err-write_column : goal.returns-in_err-write_column
 returns-in_err-write_column g c =
     let S = says c.args.b.now in
-    let sel = chosen c.args.which.now.columns in
+    let sel = chosen c.args.which.now in
     let f = c.in-Some.ensures in
     record {
       went =
@@ -58,7 +58,7 @@ returns-in_err-write_column g c =
 pub returns-in_ok-write_column : goal.returns-in_ok-write_column
 returns-in_ok-write_column g c =
     let S = says c.args.b.now in
-    let sel = chosen c.args.which.now.columns in
+    let sel = chosen c.args.which.now in
     let h = held c.args.stripe.now in
     let f = c.in-Some.ensures in
     let w = c.in_ok-write_column.ensures.how in
@@ -77,7 +77,7 @@ returns-in_ok-write_column g c =
 pub returns-else-has : goal.returns-else-has
 returns-else-has g c =
     let S = says c.args.b.now in
-    let sel = chosen c.args.which.now.columns in
+    let sel = chosen c.args.which.now in
     let h = held c.args.stripe.now in
     let f = c.in-Some.ensures in
     let m = c.in_ok-store_members.ensures.how in
@@ -95,7 +95,7 @@ returns-else-has g c =
 pub returns-in_default : goal.returns-in_default
 returns-in_default g c =
     let S = says c.args.b.now in
-    let sel = chosen c.args.which.now.columns in
+    let sel = chosen c.args.which.now in
     let h = held c.args.stripe.now in
     let m = c.in_ok-store_members.ensures.how in
     record {

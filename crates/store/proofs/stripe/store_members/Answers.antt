@@ -24,7 +24,7 @@ lent_is ds i t e l = held_at t i [] (omega arith)
 pub lay-requires : goal.lay-requires
 lay-requires g c =
     let ds = c.args.members.now.list in
-    let sel = chosen c.args.which.now.columns in
+    let sel = chosen c.args.which.now in
     let w = c.loop-i.invariant.went in
     let l : c.loop-i.i < length ds = omega (arith, c.requires.lent) in
     let b = place_within (length ds) c.loop-i.i c.args.r c.requires.serving.roster.least l in
@@ -39,7 +39,7 @@ lay-requires g c =
 pub returns-in_err-lay : goal.returns-in_err-lay
 returns-in_err-lay g c =
     let ds = c.args.members.now.list in
-    let sel = chosen c.args.which.now.columns in
+    let sel = chosen c.args.which.now in
     let l : c.loop-i.i < length ds = omega (arith, c.requires.lent) in
     let most = count_below (c.loop-i.i + 1) (length ds) sel (omega arith) in
     let w = subst (λ (p : ℕ). Went 1 (Here (get_or ds p 0) c.args.s (get_or c.args.stripe.now c.loop-i.i [])) (g.D.Disks.shelf c.loop-i.d) (g.D.Disks.seen c.loop-i.d) (g.D.Disks.shelf c.lay.new.d) (g.D.Disks.seen c.lay.new.d)) c.place_of.ensures c.lay.ensures.went in

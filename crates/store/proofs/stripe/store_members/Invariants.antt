@@ -5,5 +5,5 @@ use Rattle.store.proofs.stripe.store_members.Given as goal
 
 abbrev pub invariant-loop-i : goal.invariant-loop-i
 invariant-loop-i g l =
-    Storing l.i (chosen l.which.columns) l.members.list l.s l.r (held l.stripe)
+    Storing l.i (chosen l.which) l.members.list l.s l.r (held l.stripe)
     (g.D.Disks.shelf l.initial.d) (g.D.Disks.seen l.initial.d) (g.D.Disks.shelf l.d) (g.D.Disks.seen l.d)

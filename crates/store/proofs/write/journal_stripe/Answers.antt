@@ -17,7 +17,7 @@ pub store-requires : goal.store-requires
 store-requires g c =
     let k = c.requires.ready.1.sound.kept in
     let S = says c.args.b.now in
-    let all = count_all (length S.members) (chosen c.all.result.columns) in
+    let all = count_all (length S.members) (chosen c.all.result) in
     let low = slot_low (S.generation + 1) in
     record {
       left = omega (arith, all, c.requires.left);
@@ -32,12 +32,12 @@ pub returns-in_err-store : goal.returns-in_err-store
 returns-in_err-store g c =
     let S = says c.args.b.now in
     let w = c.store.ensures.went in
-    let all = count_all (length S.members) (chosen c.all.result.columns) in
+    let all = count_all (length S.members) (chosen c.all.result) in
     record {
       deaths = w.deaths;
       spent = omega (arith, w.spent, all);
       how = MatchResult-from_err c.from_residual.result _ _ c.from_residual.ensures.0
-          (λ _. unjournalled_first S c.args.r (held c.args.stripe.now) (chosen c.all.result.columns) c.slot_of-slot.ensures w c.in_err-store.ensures.how);
+          (λ _. unjournalled_first S c.args.r (held c.args.stripe.now) (chosen c.all.result) c.slot_of-slot.ensures w c.in_err-store.ensures.how);
     }
 
 pub commit-requires : goal.commit-requires
@@ -45,12 +45,14 @@ commit-requires g c =
     let S = says c.args.b.now in
     let k = c.requires.ready.1.sound.kept in
     let w = c.store.ensures.went in
-    let all = count_all (length S.members) (chosen c.all.result.columns) in
+    let all = count_all (length S.members) (chosen c.all.result) in
     record {
       left = omega (arith, w.spent, all, c.requires.left);
-      size = omega (arith, w.deaths.size, k.least);
-      proper = proper_journalling S c.args.r k.proper (omega (arith, c.requires.place, k.most));
-      employed = λ p l. w.deaths.employed _ (k.employed _ p 0 (member_holds S p 0 (three_members S p k.proper l)));
+      heads = record {
+        size = omega (arith, w.deaths.size, k.least);
+        proper = proper_journalling S c.args.r k.proper (omega (arith, c.requires.place, k.most));
+        employed = λ p l. w.deaths.employed _ (k.employed _ p 0 (member_holds S p 0 (three_members S p k.proper l)));
+      };
     }
 
 pub returns : goal.returns
@@ -58,7 +60,7 @@ returns g c =
     let S = says c.args.b.now in
     let r = c.args.r in
     let h = held c.args.stripe.now in
-    let sel = chosen c.all.result.columns in
+    let sel = chosen c.all.result in
     let k = c.requires.ready.1.sound.kept in
     let w = c.store.ensures.went in
     let v = c.commit.ensures.went in

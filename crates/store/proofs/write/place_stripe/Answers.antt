@@ -23,7 +23,7 @@ pub returns : goal.returns
 returns g c =
     let S = says c.args.b.now in
     let k = c.requires.sound.1.kept in
-    let sel = chosen c.args.which.now.columns in
+    let sel = chosen c.args.which.now in
     let h = held c.args.stripe.now in
     let w = c.store.ensures.went in
     record {
