@@ -1,6 +1,6 @@
 -- A stripe, read column by column, of which no three can be missing.
 -- Assumes nothing.
-use Rattle.std.proofs.Common.{◌≡◌, ℕ, ◌+◌, ◌<◌, ◌≤◌, Bool, true, false, T, ◌≢◌, List, length, get_or, set, sym, refl, ap, ◌∙◌, subst, inl, inr, arith}
+use Rattle.std.proofs.Common.{◌≡◌, ℕ, ◌+◌, ◌<◌, Bool, true, false, T, ◌≢◌, List, length, get_or, set, sym, ap, ◌∙◌, subst, inl, inr, arith}
 use Rattle.field.specs.Stripe.{held}
 use Rattle.field.specs.Missing.{and_also, Known, Mends}
 use Rattle.field.specs.declared.missing.Missing.{Missing}

@@ -53,7 +53,11 @@ fn recover<D: Disks>(d: &mut D, best: &mut Sector, other: &mut Sector) -> Result
 }
 
 // All that coming up does with the disks.
-pub fn come_up<D: Disks>(d: &mut D, best: &mut Sector, other: &mut Sector) -> Result<Superblock, Gone>
+pub fn come_up<D: Disks>(
+    d: &mut D,
+    best: &mut Sector,
+    other: &mut Sector,
+) -> Result<Superblock, Gone>
     requires left { 46 ≤ (D.shelf d.old).left }
     requires held { Open (D.shelf d.old) }
     ensures deaths { Deaths (D.shelf d.old) (D.seen d.old) (D.shelf d.new) (D.seen d.new) }

@@ -9,7 +9,7 @@ ghost use Rattle.store.specs.Stripes.{extra};
 ghost use Rattle.store.specs.Writes.{MarksTrue, journalling};
 ghost use Rattle.store.specs.Sectors.{Coded, Fetched, Saved, Unsaved};
 
-use crate::stripe::{learn, read_column};
+use crate::stripe::{Row, learn, read_column};
 use crate::write::StripeWrite;
 use crate::{Disks, Gone};
 use field::Sector;
@@ -35,7 +35,11 @@ pub fn read<D: Disks>(
 {
     let at = locate(s, n - 64);
     let r = at.stripe;
-    let missing = read_column(d, &b.members, 64 + r, r, 2 + at.column, into, columns)?;
+    let row = Row {
+        stripe: r,
+        sector: 64 + r,
+    };
+    let missing = read_column(d, &b.members, row, 2 + at.column, into, columns)?;
     learn(&mut b.members, missing, r);
     Ok(())
 }

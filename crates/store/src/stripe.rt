@@ -16,6 +16,13 @@ use crate::{Disks, Gone};
 use field::{Missing, Sector, mend};
 use layout::{Members, Superblock, index_of, place_of};
 
+// Where a stripe lies: the sector of each of its disks that has a column of it, at the stripe's place or in a journal slot.
+#[derive(Clone, Copy, PartialEq, Eq, Debug)]
+pub struct Row {
+    pub stripe: u64,
+    pub sector: u64,
+}
+
 // Sector s of the member at place p, and whether it lives; one that is known to be dead is not asked.
 fn fetch<D: Disks>(
     d: &mut D,
@@ -37,24 +44,23 @@ fn fetch<D: Disks>(
     read_sector(d, at, s, into)
 }
 
-// All columns of stripe r, from sector s of the members; says which were missing, and were had again.
+// All columns of a stripe, from the members; says which were missing, and were had again.
 pub fn load<D: Disks>(
     d: &mut D,
     members: &Members,
-    s: u64,
-    r: u64,
+    row: Row,
     stripe: &mut [Sector],
 ) -> Result<Missing, Gone>
     requires left { length members.now.list ≤ (D.shelf d.old).left }
-    requires size { s < (D.shelf d.old).sectors }
+    requires size { row.sector < (D.shelf d.old).sectors }
     requires serving { Serving (D.shelf d.old) members.now.list members.now.dead }
     requires lent { length stripe.old ≡ length members.now.list }
     ensures went { Went (length members.now.list) Nowhere (D.shelf d.old) (D.seen d.old) (D.shelf d.new) (D.seen d.new) }
-    ensures how { MatchResult result (λ missing. Loaded missing members.now.list s r stripe.new (D.shelf d.old) (D.shelf d.new)) (λ _. (D.shelf d.new).on ≡ false) }
+    ensures how { MatchResult result (λ missing. Loaded missing members.now.list row.sector row.stripe stripe.new (D.shelf d.old) (D.shelf d.new)) (λ _. (D.shelf d.new).on ≡ false) }
 {
     let mut missing = Missing::Nothing;
     for (i, column) in stripe.iter_mut().enumerate() {
-        if !fetch(d, members, place_of(i, r), s, column)? {
+        if !fetch(d, members, place_of(i, row.stripe), row.sector, column)? {
             missing = missing.also(i);
         }
     }
@@ -62,28 +68,27 @@ pub fn load<D: Disks>(
     Ok(missing)
 }
 
-// Column i of stripe r alone: from its own member by one ask, or, if that is dead, from the others; says which were missing.
+// Column i of a stripe alone: from its own member by one ask, or, if that is dead, from the others; says which were missing.
 pub fn read_column<D: Disks>(
     d: &mut D,
     members: &Members,
-    s: u64,
-    r: u64,
+    row: Row,
     i: usize,
     into: &mut Sector,
     stripe: &mut [Sector],
 ) -> Result<Missing, Gone>
     requires left { 1 + length members.now.list ≤ (D.shelf d.old).left }
-    requires size { (s < (D.shelf d.old).sectors) × (i < length members.now.list) }
+    requires size { (row.sector < (D.shelf d.old).sectors) × (i < length members.now.list) }
     requires serving { Serving (D.shelf d.old) members.now.list members.now.dead }
     requires lent { length stripe.old ≡ length members.now.list }
     ensures went { Went (1 + length members.now.list) Nowhere (D.shelf d.old) (D.seen d.old) (D.shelf d.new) (D.seen d.new) }
-    ensures how { MatchResult result (λ missing. Read missing members.now.list s r i into.new (D.shelf d.old) (D.shelf d.new)) (λ _. (D.shelf d.new).on ≡ false) }
+    ensures how { MatchResult result (λ missing. Read missing members.now.list row.sector row.stripe i into.new (D.shelf d.old) (D.shelf d.new)) (λ _. (D.shelf d.new).on ≡ false) }
 {
-    let p = place_of(i, r);
-    if fetch(d, members, p, s, into)? {
+    let p = place_of(i, row.stripe);
+    if fetch(d, members, p, row.sector, into)? {
         return Ok(Missing::Nothing);
     }
-    let missing = load(d, members, s, r, stripe)?;
+    let missing = load(d, members, row, stripe)?;
     *into = stripe[i];
     Ok(missing)
 }
@@ -120,32 +125,31 @@ fn lay<D: Disks>(d: &mut D, members: &Members, p: usize, s: u64, words: &Sector)
     Ok(())
 }
 
-// The selected columns of stripe r to sector s of the members, each by one ask.
+// The selected columns of a stripe to the members, each by one ask.
 pub fn store_members<D: Disks>(
     d: &mut D,
     members: &Members,
-    s: u64,
-    r: u64,
+    row: Row,
     stripe: &[Sector],
     which: &Selection,
 ) -> Result<(), Gone>
     requires left { count (length members.now.list) (chosen which.now) ≤ (D.shelf d.old).left }
-    requires size { s < (D.shelf d.old).sectors }
+    requires size { row.sector < (D.shelf d.old).sectors }
     requires serving { Serving (D.shelf d.old) members.now.list members.now.dead }
     requires lent { length stripe.now ≡ length members.now.list }
-    ensures went { Went (count (length members.now.list) (chosen which.now)) (Spread (chosen which.now) members.now.list s r (held stripe.now)) (D.shelf d.old) (D.seen d.old) (D.shelf d.new) (D.seen d.new) }
-    ensures how { MatchResult result (λ _. Storing (length members.now.list) (chosen which.now) members.now.list s r (held stripe.now) (D.shelf d.old) (D.seen d.old) (D.shelf d.new) (D.seen d.new)) (λ _. (D.shelf d.new).on ≡ false) }
+    ensures went { Went (count (length members.now.list) (chosen which.now)) (Spread (chosen which.now) members.now.list row.sector row.stripe (held stripe.now)) (D.shelf d.old) (D.seen d.old) (D.shelf d.new) (D.seen d.new) }
+    ensures how { MatchResult result (λ _. Storing (length members.now.list) (chosen which.now) members.now.list row.sector row.stripe (held stripe.now) (D.shelf d.old) (D.seen d.old) (D.shelf d.new) (D.seen d.new)) (λ _. (D.shelf d.new).on ≡ false) }
 {
     for (i, column) in stripe.iter().enumerate() {
         if which.has(i) {
-            lay(d, members, place_of(i, r), s, column)?;
+            lay(d, members, place_of(i, row.stripe), row.sector, column)?;
         }
     }
     Ok(())
 }
 
 // What a disk that is being filled has of a stripe: one column.
-#[derive(Clone, Copy)]
+#[derive(Clone, Copy, PartialEq, Eq, Debug)]
 pub struct Share {
     pub disk: u32,
     pub column: usize,
@@ -186,28 +190,27 @@ fn write_column<D: Disks>(
     Ok(())
 }
 
-// The selected columns of stripe r to sector s of all that hold it, also of the disk that is being filled.
+// The selected columns of a stripe to all that hold it, also of the disk that is being filled.
 pub fn store<D: Disks>(
     d: &mut D,
     b: &Superblock,
-    s: u64,
-    r: u64,
+    row: Row,
     stripe: &[Sector],
     which: &Selection,
 ) -> Result<(), Gone>
     requires left { count (length b.now.members.list) (chosen which.now) + extra b.now.rebuild ≤ (D.shelf d.old).left }
-    requires size { s < (D.shelf d.old).sectors }
+    requires size { row.sector < (D.shelf d.old).sectors }
     requires proper { Proper (says b.now) }
     requires serving { Serving (D.shelf d.old) b.now.members.list b.now.members.dead }
     requires employed { (e p t : ℕ) → Holds (says b.now) e p t → Employed (D.shelf d.old) e }
     requires lent { length stripe.now ≡ length b.now.members.list }
-    ensures went { Went (count (length b.now.members.list) (chosen which.now) + extra b.now.rebuild) (Held (chosen which.now) (says b.now) s r) (D.shelf d.old) (D.seen d.old) (D.shelf d.new) (D.seen d.new) }
-    ensures how { MatchResult result (λ _. ((D.shelf d.old).on ≡ true → (D.shelf d.new).on ≡ true) × Stored (chosen which.now) (says b.now) s r (held stripe.now) (D.shelf d.new)) (λ _. (D.shelf d.new).on ≡ false) }
+    ensures went { Went (count (length b.now.members.list) (chosen which.now) + extra b.now.rebuild) (Held (chosen which.now) (says b.now) row.sector row.stripe) (D.shelf d.old) (D.seen d.old) (D.shelf d.new) (D.seen d.new) }
+    ensures how { MatchResult result (λ _. ((D.shelf d.old).on ≡ true → (D.shelf d.new).on ≡ true) × Stored (chosen which.now) (says b.now) row.sector row.stripe (held stripe.now) (D.shelf d.new)) (λ _. (D.shelf d.new).on ≡ false) }
 {
-    store_members(d, &b.members, s, r, stripe, which)?;
-    if let Some(share) = share_of(b, r) {
+    store_members(d, &b.members, row, stripe, which)?;
+    if let Some(share) = share_of(b, row.stripe) {
         if which.has(share.column) {
-            write_column(d, share.disk, s, share.column, stripe)?;
+            write_column(d, share.disk, row.sector, share.column, stripe)?;
         }
     }
     Ok(())

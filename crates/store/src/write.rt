@@ -14,7 +14,7 @@ ghost use Rattle.store.specs.Writes.{MarksTrue, journalling, Journalled, Unjourn
 use crate::commit::commit;
 use crate::journal::slot_of;
 use crate::selection::Selection;
-use crate::stripe::{load, store};
+use crate::stripe::{Row, load, store};
 use crate::{Disks, Gone};
 use field::{Missing, Sector, put};
 use layout::{Members, Superblock};
@@ -38,7 +38,11 @@ fn journal_stripe<D: Disks>(
     ensures how { MatchResult result (λ _. (says b.new ≡ journalling (says b.old) r) × (b.new.members ≡ b.old.members) × Journalled (says b.old) r (held stripe.now) (D.shelf d.old) (D.shelf d.new)) (λ _. Unjournalled (says b.old) r (held stripe.now) (D.shelf d.old) (D.shelf d.new)) }
 {
     let slot = slot_of(b.generation + 1);
-    store(d, b, slot, r, stripe, &Selection::all())?;
+    let row = Row {
+        stripe: r,
+        sector: slot,
+    };
+    store(d, b, row, stripe, &Selection::all())?;
     b.generation += 1;
     b.journal = Some(r);
     commit(d, b, sector)
@@ -61,7 +65,11 @@ fn place_stripe<D: Disks>(
     ensures spent { (D.shelf d.old).left ≤ (D.shelf d.new).left + (count (length b.now.members.list) (chosen which.now) + extra b.now.rebuild) }
     ensures how { MatchResult result (λ _. Placing (chosen which.now) (says b.now) r (held stripe.now) (D.shelf d.old) (D.shelf d.new)) (λ _. Unplaced (says b.now) (D.shelf d.old) (D.shelf d.new)) }
 {
-    store(d, b, 64 + r, r, stripe, which)
+    let row = Row {
+        stripe: r,
+        sector: 64 + r,
+    };
+    store(d, b, row, stripe, which)
 }
 
 // A stripe that is to be written. It holds the disks from its beginning to its end.
@@ -112,7 +120,11 @@ impl<'a, D: Disks> StripeWrite<'a, D> {
         ensures how { MatchResult result (λ missing. Loaded missing members.now.list (64 + self.old.stripe) self.old.stripe columns.new (D.shelf self.old.disks.now) (D.shelf self.new.disks.now)) (λ _. (D.shelf self.new.disks.now).on ≡ false) }
     {
         let r = self.stripe;
-        load(self.disks, members, 64 + r, r, columns)
+        let row = Row {
+            stripe: r,
+            sector: 64 + r,
+        };
+        load(self.disks, members, row, columns)
     }
 
     // These words for data column j, and P and Q anew. The disks aren't asked.

@@ -1,11 +1,10 @@
-use Rattle.std.proofs.Common.{◌≡◌, ℕ, ◌+◌, ◌-◌, ◌*◌, ◌<◌, ◌≤◌, ◌∷◌, length, sym, refl, ap, ◌∙◌, subst, arith, lit<}
+use Rattle.std.proofs.Common.{◌≡◌, ℕ, ◌+◌, ◌-◌, ◌*◌, ◌<◌, ◌≤◌, length, sym, refl, ap, ◌∙◌, subst, arith, lit<}
 use Rattle.field.proofs.Words.{written}
 use Rattle.store.specs.declared.refusal.Refusal.{Refusal}
 use Rattle.store.specs.declared.refusal.Refusal.TheVariants.{Tag, Sector, Unbuilt}
 use Rattle.store.specs.Store.{wrong}
-use Rattle.store.specs.Promise.{can, said}
+use Rattle.store.specs.Promise.{can}
 use Rattle.store.specs.Tags.{Reaches, number_of, refusal_of}
-use Rattle.store.specs.Between.{answered}
 use Rattle.store.proofs.Asking.{refusal_is, not_refused, reaches, refused_on, asked_on}
 use Rattle.store.proofs.Performing.{size_is}
 use Rattle.store.proofs.Store.ask.Goals as goal

@@ -13,8 +13,8 @@ overflow_sub-n g c = omega (arith, c.requires.size.0, c.requires.ready.1.sound.k
 pub locate-at-requires : goal.locate-at-requires
 locate-at-requires g c = omega (arith, c.requires.size.0, c.requires.ready.1.sound.kept.least)
 
-pub overflow_add-r : goal.overflow_add-r
-overflow_add-r g c =
+pub overflow_add-row : goal.overflow_add-row
+overflow_add-row g c =
     let k = c.requires.ready.1.sound.kept in
     let l = at_stripe c.args.n _ c.args.s c.locate-at.result.stripe c.locate-at.result.column (omega (arith, c.requires.size.0, k.least)) c.requires.size.1 c.locate-at.ensures.1 c.locate-at.ensures.0 in
     omega (arith, l, c.requires.size.0, k.most)

@@ -11,7 +11,6 @@ use Rattle.store.specs.Keeping.{Ready}
 use Rattle.field.specs.Stripe.{held, Put}
 use Rattle.store.specs.Stripes.{Loaded, extra, disk_of, Each, chosen, learned}
 use Rattle.store.specs.Shelf.{count}
-use Rattle.store.specs.declared.selection.Selection.{Selection}
 use Rattle.store.specs.Writes.{MarksTrue, journalling, Journalled, Unjournalled, Unplaced, Placing}
 use Rattle.store.proofs.Laws.{deaths_then}
 use Rattle.store.proofs.Standing.{ready_asked}

@@ -18,7 +18,7 @@ fetch-requires g c =
     let ds = c.args.members.now.list in
     let w = c.loop-i.invariant.went in
     let l : c.loop-i.i < length ds = omega (arith, c.requires.lent) in
-    let b = place_within (length ds) c.loop-i.i c.args.r c.requires.serving.roster.least l in
+    let b = place_within (length ds) c.loop-i.i c.args.row.stripe c.requires.serving.roster.least l in
     record {
       left = omega (arith, w.spent, c.requires.left, l);
       place = (omega (arith, b, c.place_of.ensures), omega (arith, w.deaths.size, c.requires.size));
@@ -38,8 +38,8 @@ loop-i-preserved g c =
     let l : c.loop-i.i < length ds = omega (arith, c.requires.lent) in
     let lt : c.loop-i.i < length c.loop-i.stripe = omega (arith, l) in
     let w = c.fetch.ensures.went in
-    let heard : Answered (disk_of ds c.args.r c.loop-i.i) c.args.s c.fetch.new.into c.in_ok-fetch.field-0 (g.D.Disks.shelf c.loop-i.d) (g.D.Disks.shelf c.fetch.new.d) =
-    subst (λ (p : ℕ). Answered (get_or ds p 0) c.args.s c.fetch.new.into c.in_ok-fetch.field-0 (g.D.Disks.shelf c.loop-i.d) (g.D.Disks.shelf c.fetch.new.d)) c.place_of.ensures
+    let heard : Answered (disk_of ds c.args.row.stripe c.loop-i.i) c.args.row.sector c.fetch.new.into c.in_ok-fetch.field-0 (g.D.Disks.shelf c.loop-i.d) (g.D.Disks.shelf c.fetch.new.d) =
+    subst (λ (p : ℕ). Answered (get_or ds p 0) c.args.row.sector c.fetch.new.into c.in_ok-fetch.field-0 (g.D.Disks.shelf c.loop-i.d) (g.D.Disks.shelf c.fetch.new.d)) c.place_of.ensures
     c.in_ok-fetch.ensures.how in
     elim c.if-not-branch.branch [
       | then-not-branch b ↦
@@ -47,11 +47,11 @@ loop-i-preserved g c =
           (loading_dead c.fetch.new.into lt c.loop-i.invariant w c.in_ok-fetch.field-0 b.if-not-branch.true heard
           (λ i j ij jn di dj dn.
           no_third_column ds c.requires.serving.roster (g.D.Disks.shelf c.fetch.new.d) c.args.members.now.dead
-          (serving_went (went_then c.loop-i.invariant.went w) ds c.args.members.now.dead c.requires.serving) c.args.r i j c.loop-i.i ij jn l di dj dn))
+          (serving_went (went_then c.loop-i.invariant.went w) ds c.args.members.now.dead c.requires.serving) c.args.row.stripe i j c.loop-i.i ij jn l di dj dn))
       | else-not-branch b ↦
           rw b.missing-is
           (loading_alive c.fetch.new.into lt c.loop-i.invariant w
-          (subst (λ (o : Bool). Answered (disk_of ds c.args.r c.loop-i.i) c.args.s c.fetch.new.into o (g.D.Disks.shelf c.loop-i.d) (g.D.Disks.shelf c.fetch.new.d)) b.if-not-branch.false heard))
+          (subst (λ (o : Bool). Answered (disk_of ds c.args.row.stripe c.loop-i.i) c.args.row.sector c.fetch.new.into o (g.D.Disks.shelf c.loop-i.d) (g.D.Disks.shelf c.fetch.new.d)) b.if-not-branch.false heard))
     ]
 
 pub mend-requires : goal.mend-requires

@@ -10,7 +10,7 @@ use Rattle.store.proofs.stripe.read_column.Goals as goal
 pub fetch-requires : goal.fetch-requires
 fetch-requires g c =
     let ds = c.args.members.now.list in
-    let b = place_within (length ds) c.args.i c.args.r c.requires.serving.roster.least c.requires.size.1 in
+    let b = place_within (length ds) c.args.i c.args.row.stripe c.requires.serving.roster.least c.requires.size.1 in
     record { left = omega (arith, c.requires.left); place = (omega (arith, b, c.place_of-p.ensures), c.requires.size.0); serving = c.requires.serving }
 
 pub returns-in_err-fetch : goal.returns-in_err-fetch
@@ -51,6 +51,6 @@ returns-then-branch g c =
     record {
       went = went_longer (omega arith) c.fetch.ensures.went;
       how = read_one c.in_ok-fetch.field-0 c.requires.serving.roster c.requires.size.1 c.if-branch.true c.fetch.ensures.went
-          (subst (λ (p : ℕ). Answered (get_or ds p 0) c.args.s c.fetch.new.into c.in_ok-fetch.field-0 (g.D.Disks.shelf c.args.d.now) (g.D.Disks.shelf c.fetch.new.d)) c.place_of-p.ensures
+          (subst (λ (p : ℕ). Answered (get_or ds p 0) c.args.row.sector c.fetch.new.into c.in_ok-fetch.field-0 (g.D.Disks.shelf c.args.d.now) (g.D.Disks.shelf c.fetch.new.d)) c.place_of-p.ensures
           c.in_ok-fetch.ensures.how);
     }

@@ -27,7 +27,7 @@ lay-requires g c =
     let sel = chosen c.args.which.now in
     let w = c.loop-i.invariant.went in
     let l : c.loop-i.i < length ds = omega (arith, c.requires.lent) in
-    let b = place_within (length ds) c.loop-i.i c.args.r c.requires.serving.roster.least l in
+    let b = place_within (length ds) c.loop-i.i c.args.row.stripe c.requires.serving.roster.least l in
     let one = count_more c.loop-i.i sel (sym c.if-has.ensures) in
     let most = count_below (c.loop-i.i + 1) (length ds) sel (omega arith) in
     record {
@@ -42,7 +42,7 @@ returns-in_err-lay g c =
     let sel = chosen c.args.which.now in
     let l : c.loop-i.i < length ds = omega (arith, c.requires.lent) in
     let most = count_below (c.loop-i.i + 1) (length ds) sel (omega arith) in
-    let w = subst (λ (p : ℕ). Went 1 (Here (get_or ds p 0) c.args.s (get_or c.args.stripe.now c.loop-i.i [])) (g.D.Disks.shelf c.loop-i.d) (g.D.Disks.seen c.loop-i.d) (g.D.Disks.shelf c.lay.new.d) (g.D.Disks.seen c.lay.new.d)) c.place_of.ensures c.lay.ensures.went in
+    let w = subst (λ (p : ℕ). Went 1 (Here (get_or ds p 0) c.args.row.sector (get_or c.args.stripe.now c.loop-i.i [])) (g.D.Disks.shelf c.loop-i.d) (g.D.Disks.seen c.loop-i.d) (g.D.Disks.shelf c.lay.new.d) (g.D.Disks.seen c.lay.new.d)) c.place_of.ensures c.lay.ensures.went in
     record {
       went = went_longer most (storing_went c.requires.serving.roster l c.loop-i.invariant _ (sym c.if-has.ensures) (lent_is ds c.loop-i.i c.args.stripe.now c.requires.lent l) w);
       how = MatchResult-from_err c.from_residual.result _ _ c.from_residual.ensures.0 (λ _. c.in_err-lay.ensures.how);
@@ -54,8 +54,8 @@ loop-i-preserved g c =
     let l : c.loop-i.i < length ds = omega (arith, c.requires.lent) in
     elim c.if-has.branch [
       | then-has+in_ok-lay b ↦
-          let w = subst (λ (p : ℕ). Went 1 (Here (get_or ds p 0) c.args.s (get_or c.args.stripe.now c.loop-i.i [])) (g.D.Disks.shelf c.loop-i.d) (g.D.Disks.seen c.loop-i.d) (g.D.Disks.shelf b.lay.new.d) (g.D.Disks.seen b.lay.new.d)) b.place_of.ensures b.lay.ensures.went in
-          let shows = subst (λ (p : ℕ). Shows (g.D.Disks.shelf b.lay.new.d) (get_or ds p 0) c.args.s (get_or c.args.stripe.now c.loop-i.i [])) b.place_of.ensures b.in_ok-lay.ensures.how.1 in
+          let w = subst (λ (p : ℕ). Went 1 (Here (get_or ds p 0) c.args.row.sector (get_or c.args.stripe.now c.loop-i.i [])) (g.D.Disks.shelf c.loop-i.d) (g.D.Disks.seen c.loop-i.d) (g.D.Disks.shelf b.lay.new.d) (g.D.Disks.seen b.lay.new.d)) b.place_of.ensures b.lay.ensures.went in
+          let shows = subst (λ (p : ℕ). Shows (g.D.Disks.shelf b.lay.new.d) (get_or ds p 0) c.args.row.sector (get_or c.args.stripe.now c.loop-i.i [])) b.place_of.ensures b.in_ok-lay.ensures.how.1 in
           rw b.d-is
           (storing_more c.requires.serving.roster l c.loop-i.invariant _ (sym b.if-has.ensures) (lent_is ds c.loop-i.i c.args.stripe.now c.requires.lent l) w b.in_ok-lay.ensures.how.0 shows)
       | else-has b ↦ rw b.d-is (storing_skip c.requires.serving.roster l c.loop-i.invariant (sym b.if-has.ensures))
