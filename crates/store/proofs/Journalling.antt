@@ -13,12 +13,12 @@ use Rattle.store.specs.Keeping.{Columns, slot, Fills, Holds, Kept, Sound, Ready}
 use Rattle.store.specs.Commits.{Heading, After, Committed, Interrupted}
 use Rattle.store.specs.Stripes.{Serving, Held, Stored}
 use Rattle.store.specs.Writes.{MarksTrue, journalling, Changes, Journalled, Unjournalled, Placing, Unplaced}
-use Rattle.store.proofs.Truths.{true-T}
+use Rattle.store.proofs.Truths.{true-T, with_marks}
 use Rattle.store.proofs.Laws.{shows_went, shows_among, among_settled, among_synced}
 use Rattle.store.proofs.Standing.{member_holds, slot_low, home_staged, home_placed, kept_went, sound_went, placed_went, all_shown, in_place_synced, kept_journalling}
 
 -- members under a superblock that is kept can be asked
-pub serving_kept : {x : Shelf} {S : Super} {c : Columns} (m : Marks) → Kept x S c → MarksTrue x S.members m → Serving x S.members m
+pub serving_kept : {x : Shelf} {S : Super} {c : Columns} (m : Marks) → Kept x S c → MarksTrue x (with_marks S.members m) → Serving x (with_marks S.members m)
 serving_kept {S = S} m k t = record { roster = k.proper.roster; steady = k.steady; employed = λ p l. k.employed _ p 0 (member_holds S p 0 l); marks = t }
 
 -- ---- staged in the other slot

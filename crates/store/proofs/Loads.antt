@@ -17,13 +17,13 @@ use Rattle.store.specs.Shelf.{Shelf}
 use Rattle.store.specs.Durable.{Nowhere, Went, Heard}
 use Rattle.store.specs.Stripes.{Serving, Shown, disk_of, Answered, Each, Loading, Loaded, Read, learned}
 use Rattle.store.specs.Writes.{MarksTrue}
-use Rattle.store.proofs.Truths.{true-T}
+use Rattle.store.proofs.Truths.{true-T, with_marks}
 use Rattle.store.proofs.Counting.{no_third}
 use Rattle.store.proofs.Laws.{went_none, went_then, shows_went, dead_stays}
 use Rattle.store.proofs.Standing.{members_apart}
 
 -- whoever serves goes on to, while nothing but deaths happens
-pub serving_went : {n : ℕ} {W : (d s : ℕ) → List ℕ → Type 0} {x y : Shelf} {es fs : List Event} → Went n W x es y fs → (ds : List ℕ) (m : Marks) → Serving x ds m → Serving y ds m
+pub serving_went : {n : ℕ} {W : (d s : ℕ) → List ℕ → Type 0} {x y : Shelf} {es fs : List Event} → Went n W x es y fs → (ds : List ℕ) (m : Marks) → Serving x (with_marks ds m) → Serving y (with_marks ds m)
 serving_went w ds m v =
     record {
       roster = v.roster;
@@ -48,7 +48,7 @@ module _ (ds : List ℕ) (k : Roster ds) where
       members_apart ds k (place i r) (place j r) (place_within (length ds) i r k.least hi) (place_within (length ds) j r k.least hj) (place_apart i j r n)
 
   -- of a stripe's columns no three are on dead disks
-  pub no_third_column : (z : Shelf) (m : Marks) → Serving z ds m → (r a b n : ℕ) → a < b → b < n → n < length ds →
+  pub no_third_column : (z : Shelf) (m : Marks) → Serving z (with_marks ds m) → (r a b n : ℕ) → a < b → b < n → n < length ds →
       z.alive (disk_of ds r a) ≡ false → z.alive (disk_of ds r b) ≡ false → z.alive (disk_of ds r n) ≡ false → ⊥
   no_third_column z m v r a b n ab bn nk da db dn =
       let ha : a < length ds = omega arith in
@@ -141,16 +141,16 @@ read_all {ds = ds} {s} {r} {i} d v lives h e w a p =
 -- ---- what is learned of the members
 
 -- one member more is known to be dead
-marks_more : (x : Shelf) (ds : List ℕ) (m : Marks) (p : ℕ) → MarksTrue x ds m → x.alive (get_or ds p 0) ≡ false → MarksTrue x ds (with_mark m p)
+marks_more : (x : Shelf) (ds : List ℕ) (m : Marks) (p : ℕ) → MarksTrue x (with_marks ds m) → x.alive (get_or ds p 0) ≡ false → MarksTrue x (with_marks ds (with_mark m p))
 marks_more x ds m p v d q l t = elim (marked_more m p q t) [ inl a ↦ v q l a | inr e ↦ subst (λ (z : ℕ). x.alive (get_or ds z 0) ≡ false) (sym e) d ]
 
-pub marks_learned : (x : Shelf) (ds : List ℕ) (m : Marks) (missing : Missing) (r : ℕ) → MarksTrue x ds m → Each missing (λ i. (i < length ds) × (x.alive (disk_of ds r i) ≡ false)) → MarksTrue x ds (learned m missing r)
+pub marks_learned : (x : Shelf) (ds : List ℕ) (m : Marks) (missing : Missing) (r : ℕ) → MarksTrue x (with_marks ds m) → Each missing (λ i. (i < length ds) × (x.alive (disk_of ds r i) ≡ false)) → MarksTrue x (with_marks ds (learned m missing r))
 marks_learned x ds m Nothing r v d = v
 marks_learned x ds m (One a) r v d = marks_more x ds m (place a r) v d.1
 marks_learned x ds m (Two a b) r v d = marks_more x ds (with_mark m (place a r)) (place b r) (marks_more x ds m (place a r) v d.0.1) d.1.1
 
-pub marks_went : {n : ℕ} {W : (d s : ℕ) → List ℕ → Type 0} {x y : Shelf} {es fs : List Event} → Went n W x es y fs → (ds : List ℕ) (m : Marks) → MarksTrue x ds m → MarksTrue y ds m
+pub marks_went : {n : ℕ} {W : (d s : ℕ) → List ℕ → Type 0} {x y : Shelf} {es fs : List Event} → Went n W x es y fs → (ds : List ℕ) (m : Marks) → MarksTrue x (with_marks ds m) → MarksTrue y (with_marks ds m)
 marks_went w ds m v p l t = dead_stays w (get_or ds p 0) (v p l t)
 
-pub marks_kept : (x : Shelf) {ds es : List ℕ} {m n : Marks} → ds ≡ es → m ≡ n → MarksTrue x ds m → MarksTrue x es n
-marks_kept x {ds} {es} {m} {n} p q v = subst (λ (k : Marks). MarksTrue x es k) q (subst (λ (e : List ℕ). MarksTrue x e m) p v)
+pub marks_kept : (x : Shelf) {ds es : List ℕ} {m n : Marks} → ds ≡ es → m ≡ n → MarksTrue x (with_marks ds m) → MarksTrue x (with_marks es n)
+marks_kept x {ds} {es} {m} {n} p q v = subst (λ (k : Marks). MarksTrue x (with_marks es k)) q (subst (λ (e : List ℕ). MarksTrue x (with_marks e m)) p v)

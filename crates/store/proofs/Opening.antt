@@ -19,7 +19,7 @@ use Rattle.store.specs.Between.{ticks, Explains, Lost, Recoverable, Serving}
 use Rattle.store.specs.declared.Ask.{Ask}
 use Rattle.store.specs.declared.Store.{Store}
 use Rattle.store.specs.declared.tags.Tags.{Tags}
-use Rattle.store.proofs.Truths.{T_true}
+use Rattle.store.proofs.Truths.{T_true, with_marks}
 use Rattle.store.proofs.Laws.{deaths_same, back_returned}
 use Rattle.store.proofs.Standing.{ready_asked, sound_twice, torn_back, torn_went}
 use Rattle.store.proofs.Beginning.{begins}
@@ -107,8 +107,8 @@ at_start {x} s e =
 
 -- ---- it comes up
 
-nobody_marked : (x : Shelf) (ds : List ℕ) (m : Marks) → m ≡ Nobody → MarksTrue x ds m
-nobody_marked x ds m e = subst (λ (n : Marks). MarksTrue x ds n) (sym e) (λ p l t. absurd t)
+nobody_marked : (x : Shelf) (ds : List ℕ) (m : Marks) → m ≡ Nobody → MarksTrue x (with_marks ds m)
+nobody_marked x ds m e = subst (λ (n : Marks). MarksTrue x (with_marks ds n)) (sym e) (λ p l t. absurd t)
 
 same_there : {A : Type 0} (a : A) (n t : ℕ) → get_or (replicate n a) t a ≡ a
 same_there a zero t = refl

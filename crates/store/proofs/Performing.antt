@@ -70,7 +70,7 @@ module _ {s : Store} {room : List ℕ} {x y : Shelf} {es fs : List Event} (v : S
       record { off = off; S = S; c = v.c; h = since; S' = S; c' = v.c; h' = since; torn = sound_twice y S v.c k; one = explains_later explained; two = explains_later explained }
 
   pub performed_read : (b : Superblock) (t i : ℕ) → t < 8 → (into w : List ℕ) (m : ℕ → ℕ) (g : ℕ) → v.h.way t ≡ Under (Read i) w m g → y.on ≡ true → Ready y S v.c → says b ≡ S →
-      MarksTrue y b.members.list b.members.dead → into ≡ sector_of x.sectors i v.c → Performed (Read i) Bytes t into (under s b) v.h y fs
+      MarksTrue y b.members → into ≡ sector_of x.sectors i v.c → Performed (Read i) Bytes t into (under s b) v.h y fs
   unfolding core
   performed_read b t i l into w m g way lit ready same marks got =
       let seen = v.h.content i (v.h.count i) in
@@ -132,7 +132,7 @@ module _ {s : Store} {room : List ℕ} {x y : Shelf} {es fs : List Event} (v : S
       }
 
   module _ (t i : ℕ) (l : t < 8) (words w : List ℕ) (m : ℕ → ℕ) (g : ℕ) (way : v.h.way t ≡ Under (Write i) w m g) where
-    pub performed_write : (b : Superblock) → says b ≡ journalling S (stripe_of (y.sectors - 64) i) → MarksTrue y b.members.list b.members.dead → Saved y.sectors i w S x y →
+    pub performed_write : (b : Superblock) → says b ≡ journalling S (stripe_of (y.sectors - 64) i) → MarksTrue y b.members → Saved y.sectors i w S x y →
         Performed (Write i) Done t words (under s b) v.h y fs
     unfolding starts_with core
     performed_write b same marks saved =

@@ -16,7 +16,7 @@ use Rattle.store.specs.Keeping.{Columns, Sound, Ready, Left}
 use Rattle.store.specs.Stripes.{Shown, Loaded, Read, chosen}
 use Rattle.store.specs.Writes.{MarksTrue, journalling, InPlace, Changes, Journalled, Unjournalled, Placing, Unplaced}
 use Rattle.store.specs.Sectors.{sector_of, Coded, Rewrites, Fetched, Saved, Unsaved}
-use Rattle.store.proofs.Truths.{true-T}
+use Rattle.store.proofs.Truths.{true-T, with_marks}
 use Rattle.store.proofs.Counting.{count_three}
 use Rattle.store.proofs.Standing.{member_holds, all_shown, ready_asked}
 
@@ -25,7 +25,7 @@ use Rattle.store.proofs.Standing.{member_holds, all_shown, ready_asked}
 pub shown_ready : {x : Shelf} {S : Super} {c : Columns} (r : ℕ) → Ready x S c → 64 + r < x.sectors → Shown x S.members (64 + r) r (c r)
 shown_ready {x} {S} {c} r k l p b = all_shown x S c k.sound.kept k.placed (get_or S.members p 0) p r (member_holds S p r b) l
 
-pub marks_deaths : {x y : Shelf} {es fs : List Event} → Deaths x es y fs → (ds : List ℕ) (m : Marks) → MarksTrue x ds m → MarksTrue y ds m
+pub marks_deaths : {x y : Shelf} {es fs : List Event} → Deaths x es y fs → (ds : List ℕ) (m : Marks) → MarksTrue x (with_marks ds m) → MarksTrue y (with_marks ds m)
 marks_deaths {y = y} w ds m v p l t =
     elim (cases_Bool (y.alive (get_or ds p 0))) [ inl q ↦ absurd (subst T (v p l t) (w.falls (get_or ds p 0) (true-T q))) | inr q ↦ q ]
 

@@ -73,7 +73,7 @@ pub record Recoverable (x : Shelf) (es : List Event) : Type 0 where
 pub record Standing (s : Store) (x : Shelf) (k : ℕ) (es : List Event) (c : Columns) (h : Seen) : Type 0 where
   pub lit : x.on ≡ true
   pub ready : Ready x (says s.superblock) c
-  pub marks : MarksTrue x s.superblock.members.list s.superblock.members.dead
+  pub marks : MarksTrue x s.superblock.members
   pub same : s.sectors ≡ x.sectors
   pub explains : Explains x.sectors k es (says s.superblock) c h
 

@@ -6,7 +6,7 @@ use Rattle.field.specs.Missing.{Known}
 use Rattle.field.specs.declared.missing.Missing.{Missing}
 use Rattle.field.specs.declared.missing.Missing.TheVariants.{Nothing, One, Two}
 use Rattle.layout.specs.Places.{place, index}
-use Rattle.layout.specs.Members.{Roster, marked, with_mark}
+use Rattle.layout.specs.Members.{Roster, Membership, marked, with_mark}
 use Rattle.layout.specs.declared.members.Marks.{Marks}
 use Rattle.store.specs.Event.{Event}
 use Rattle.store.specs.Shelf.{Shelf, count}
@@ -17,11 +17,11 @@ use Rattle.store.specs.declared.stripe.Share.{Share}
 use Rattle.store.specs.Keeping.{Fills, Holds}
 
 -- the members can be asked: they are 4 to 12 disks, no disk twice, each is in use, no more than two are lost, and those that are marked are dead
-pub record Serving (x : Shelf) (ds : List ℕ) (m : Marks) : Type 0 where
-  pub roster : Roster ds
+pub record Serving (x : Shelf) (m : Membership) : Type 0 where
+  pub roster : Roster m.list
   pub steady : Steady x
-  pub employed : (p : ℕ) → p < length ds → Employed x (slice_index ds p)
-  pub marks : (p : ℕ) → p < length ds → T (marked m p) → x.alive (slice_index ds p) ≡ false
+  pub employed : (p : ℕ) → p < length m.list → Employed x (slice_index m.list p)
+  pub marks : (p : ℕ) → p < length m.list → T (marked m.dead p) → x.alive (slice_index m.list p) ≡ false
 
 -- each member shows its column of c at sector s, as stripe r has it
 abbrev pub Shown : Shelf → List ℕ → ℕ → ℕ → (ℕ → List ℕ) → Type 0

@@ -2,16 +2,15 @@
 -- Assumes nothing.
 use Rattle.std.specs.Prelude.{◌≡◌, ℕ, ◌+◌, ◌<◌, Bool, true, false, T, List, length, Some, ◌≢◌, slice_index}
 use Rattle.layout.specs.Places.{index}
-use Rattle.layout.specs.Members.{marked}
+use Rattle.layout.specs.Members.{Membership, marked}
 use Rattle.layout.specs.Super.{Super}
-use Rattle.layout.specs.declared.members.Marks.{Marks}
 use Rattle.store.specs.Shelf.{Shelf}
 use Rattle.store.specs.Durable.{Among}
 use Rattle.store.specs.Keeping.{Columns, Holds, Sound, Ready, Left}
 
 -- members that are marked are dead
-abbrev pub MarksTrue : Shelf → List ℕ → Marks → Type 0
-MarksTrue x ds m = (p : ℕ) → p < length ds → T (marked m p) → x.alive (slice_index ds p) ≡ false
+abbrev pub MarksTrue : Shelf → Membership → Type 0
+MarksTrue x m = (p : ℕ) → p < length m.list → T (marked m.dead p) → x.alive (slice_index m.list p) ≡ false
 
 -- the next superblock, with stripe r in the journal, which says the same otherwise
 abbrev pub journalling : Super → ℕ → Super

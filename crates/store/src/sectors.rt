@@ -27,10 +27,10 @@ pub fn read<D: Disks>(
     requires left { 1 + length b.old.members.list ≤ (D.shelf d.old).left }
     requires size { (n ≡ (D.shelf d.old).sectors) × (s < (length b.old.members.list - 2) * (n - 64)) }
     requires ready { (c : Columns) × Ready (D.shelf d.old) (says b.old) c }
-    requires marks { MarksTrue (D.shelf d.old) b.old.members.list b.old.members.dead }
+    requires marks { MarksTrue (D.shelf d.old) b.old.members }
     requires lent { length columns.old ≡ length b.old.members.list }
     ensures went { Went (1 + length b.old.members.list) Nowhere (D.shelf d.old) (D.seen d.old) (D.shelf d.new) (D.seen d.new) }
-    ensures same { (says b.new ≡ says b.old) × (MarksTrue (D.shelf d.new) b.new.members.list b.new.members.dead) }
+    ensures same { (says b.new ≡ says b.old) × (MarksTrue (D.shelf d.new) b.new.members) }
     ensures how { MatchResult result (λ _. Fetched n s into.new (says b.old) (D.shelf d.old) (D.shelf d.new)) (λ _. (D.shelf d.new).on ≡ false) }
 {
     let at = locate(s, n - 64);
@@ -56,12 +56,12 @@ pub fn write<D: Disks>(
     requires left { 2 * length b.old.members.list + 2 * extra b.old.rebuild + 8 ≤ (D.shelf d.old).left }
     requires size { (n ≡ (D.shelf d.old).sectors) × (s < (length b.old.members.list - 2) * (n - 64)) }
     requires ready { (c : Columns) × (Ready (D.shelf d.old) (says b.old) c × Coded (length b.old.members.list) c) }
-    requires marks { MarksTrue (D.shelf d.old) b.old.members.list b.old.members.dead }
+    requires marks { MarksTrue (D.shelf d.old) b.old.members }
     requires few { b.old.generation + 1 < 2 ^ 64 }
     requires lent { length columns.old ≡ length b.old.members.list }
     ensures deaths { Deaths (D.shelf d.old) (D.seen d.old) (D.shelf d.new) (D.seen d.new) }
     ensures spent { (D.shelf d.old).left ≤ (D.shelf d.new).left + (2 * length b.old.members.list + 2 * extra b.old.rebuild + 8) }
-    ensures how { MatchResult result (λ _. (says b.new ≡ journalling (says b.old) (stripe_of (n - 64) s)) × MarksTrue (D.shelf d.new) b.new.members.list b.new.members.dead × Saved n s words.now (says b.old) (D.shelf d.old) (D.shelf d.new)) (λ _. Unsaved n s words.now (says b.old) (D.shelf d.old) (D.shelf d.new)) }
+    ensures how { MatchResult result (λ _. (says b.new ≡ journalling (says b.old) (stripe_of (n - 64) s)) × MarksTrue (D.shelf d.new) b.new.members × Saved n s words.now (says b.old) (D.shelf d.old) (D.shelf d.new)) (λ _. Unsaved n s words.now (says b.old) (D.shelf d.old) (D.shelf d.new)) }
 {
     let at = locate(s, n - 64);
     let r = at.stripe;

@@ -33,7 +33,7 @@ fn fetch<D: Disks>(
 ) -> Result<bool, Gone>
     requires left { 0 < (D.shelf d.old).left }
     requires place { (p < length members.now.list) × (s < (D.shelf d.old).sectors) }
-    requires serving { Serving (D.shelf d.old) members.now.list members.now.dead }
+    requires serving { Serving (D.shelf d.old) members.now }
     ensures went { Went 1 Nowhere (D.shelf d.old) (D.seen d.old) (D.shelf d.new) (D.seen d.new) }
     ensures how { MatchResult result (λ lives. Answered (slice_index members.now.list p) s into.new lives (D.shelf d.old) (D.shelf d.new)) (λ _. (D.shelf d.new).on ≡ false) }
 {
@@ -53,7 +53,7 @@ pub fn load<D: Disks>(
 ) -> Result<Missing, Gone>
     requires left { length members.now.list ≤ (D.shelf d.old).left }
     requires size { row.sector < (D.shelf d.old).sectors }
-    requires serving { Serving (D.shelf d.old) members.now.list members.now.dead }
+    requires serving { Serving (D.shelf d.old) members.now }
     requires lent { length stripe.old ≡ length members.now.list }
     ensures went { Went (length members.now.list) Nowhere (D.shelf d.old) (D.seen d.old) (D.shelf d.new) (D.seen d.new) }
     ensures how { MatchResult result (λ missing. Loaded missing members.now.list row.sector row.stripe stripe.new (D.shelf d.old) (D.shelf d.new)) (λ _. (D.shelf d.new).on ≡ false) }
@@ -79,7 +79,7 @@ pub fn read_column<D: Disks>(
 ) -> Result<Missing, Gone>
     requires left { 1 + length members.now.list ≤ (D.shelf d.old).left }
     requires size { (row.sector < (D.shelf d.old).sectors) × (i < length members.now.list) }
-    requires serving { Serving (D.shelf d.old) members.now.list members.now.dead }
+    requires serving { Serving (D.shelf d.old) members.now }
     requires lent { length stripe.old ≡ length members.now.list }
     ensures went { Went (1 + length members.now.list) Nowhere (D.shelf d.old) (D.seen d.old) (D.shelf d.new) (D.seen d.new) }
     ensures how { MatchResult result (λ missing. Read missing members.now.list row.sector row.stripe i into.new (D.shelf d.old) (D.shelf d.new)) (λ _. (D.shelf d.new).on ≡ false) }
@@ -114,7 +114,7 @@ pub fn learn(members: &mut Members, missing: Missing, r: u64)
 fn lay<D: Disks>(d: &mut D, members: &Members, p: usize, s: u64, words: &Sector) -> Result<(), Gone>
     requires left { 0 < (D.shelf d.old).left }
     requires place { (p < length members.now.list) × (s < (D.shelf d.old).sectors) }
-    requires serving { Serving (D.shelf d.old) members.now.list members.now.dead }
+    requires serving { Serving (D.shelf d.old) members.now }
     ensures went { Went 1 (Here (slice_index members.now.list p) s words.now) (D.shelf d.old) (D.seen d.old) (D.shelf d.new) (D.seen d.new) }
     ensures how { MatchResult result (λ _. ((D.shelf d.old).on ≡ true → (D.shelf d.new).on ≡ true) × Shows (D.shelf d.new) (slice_index members.now.list p) s words.now) (λ _. (D.shelf d.new).on ≡ false) }
 {
@@ -135,7 +135,7 @@ pub fn store_members<D: Disks>(
 ) -> Result<(), Gone>
     requires left { count (length members.now.list) (chosen which.now) ≤ (D.shelf d.old).left }
     requires size { row.sector < (D.shelf d.old).sectors }
-    requires serving { Serving (D.shelf d.old) members.now.list members.now.dead }
+    requires serving { Serving (D.shelf d.old) members.now }
     requires lent { length stripe.now ≡ length members.now.list }
     ensures went { Went (count (length members.now.list) (chosen which.now)) (Spread (chosen which.now) members.now.list row.sector row.stripe (held stripe.now)) (D.shelf d.old) (D.seen d.old) (D.shelf d.new) (D.seen d.new) }
     ensures how { MatchResult result (λ _. Storing (length members.now.list) (chosen which.now) members.now.list row.sector row.stripe (held stripe.now) (D.shelf d.old) (D.seen d.old) (D.shelf d.new) (D.seen d.new)) (λ _. (D.shelf d.new).on ≡ false) }
@@ -201,7 +201,7 @@ pub fn store<D: Disks>(
     requires left { count (length b.now.members.list) (chosen which.now) + extra b.now.rebuild ≤ (D.shelf d.old).left }
     requires size { row.sector < (D.shelf d.old).sectors }
     requires proper { Proper (says b.now) }
-    requires serving { Serving (D.shelf d.old) b.now.members.list b.now.members.dead }
+    requires serving { Serving (D.shelf d.old) b.now.members }
     requires employed { (e p t : ℕ) → Holds (says b.now) e p t → Employed (D.shelf d.old) e }
     requires lent { length stripe.now ≡ length b.now.members.list }
     ensures went { Went (count (length b.now.members.list) (chosen which.now) + extra b.now.rebuild) (Held (chosen which.now) (says b.now) row.sector row.stripe) (D.shelf d.old) (D.seen d.old) (D.shelf d.new) (D.seen d.new) }

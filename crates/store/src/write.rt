@@ -30,7 +30,7 @@ fn journal_stripe<D: Disks>(
     requires left { length b.old.members.list + extra b.old.rebuild + 5 ≤ (D.shelf d.old).left }
     requires place { 64 + r < (D.shelf d.old).sectors }
     requires ready { (c : Columns) × Ready (D.shelf d.old) (says b.old) c }
-    requires marks { MarksTrue (D.shelf d.old) b.old.members.list b.old.members.dead }
+    requires marks { MarksTrue (D.shelf d.old) b.old.members }
     requires few { b.old.generation + 1 < 2 ^ 64 }
     requires lent { length stripe.now ≡ length b.old.members.list }
     ensures deaths { Deaths (D.shelf d.old) (D.seen d.old) (D.shelf d.new) (D.seen d.new) }
@@ -59,7 +59,7 @@ fn place_stripe<D: Disks>(
     requires left { count (length b.now.members.list) (chosen which.now) + extra b.now.rebuild ≤ (D.shelf d.old).left }
     requires place { (64 + r < (D.shelf d.old).sectors) × (((D.shelf d.old).sectors ≤ 4294967296) × ((says b.now).journal ≡ Some r)) }
     requires sound { (c : Columns) × Sound (D.shelf d.old) (says b.now) c }
-    requires marks { MarksTrue (D.shelf d.old) b.now.members.list b.now.members.dead }
+    requires marks { MarksTrue (D.shelf d.old) b.now.members }
     requires lent { length stripe.now ≡ length b.now.members.list }
     ensures deaths { Deaths (D.shelf d.old) (D.seen d.old) (D.shelf d.new) (D.seen d.new) }
     ensures spent { (D.shelf d.old).left ≤ (D.shelf d.new).left + (count (length b.now.members.list) (chosen which.now) + extra b.now.rebuild) }
@@ -113,7 +113,7 @@ impl<'a, D: Disks> StripeWrite<'a, D> {
     pub fn load(&mut self, members: &Members, columns: &mut [Sector]) -> Result<Missing, Gone>
         requires left { length members.now.list ≤ (D.shelf self.old.disks.now).left }
         requires size { (64 + self.old.stripe < (D.shelf self.old.disks.now).sectors) × ((D.shelf self.old.disks.now).sectors ≤ 4294967296) }
-        requires serving { Serving (D.shelf self.old.disks.now) members.now.list members.now.dead }
+        requires serving { Serving (D.shelf self.old.disks.now) members.now }
         requires lent { length columns.old ≡ length members.now.list }
         ensures same { (self.new.disks.ghost_name ≡ self.old.disks.ghost_name) × ((self.new.stripe ≡ self.old.stripe) × (self.new.touched ≡ self.old.touched)) }
         ensures went { Went (length members.now.list) Nowhere (D.shelf self.old.disks.now) (D.seen self.old.disks.now) (D.shelf self.new.disks.now) (D.seen self.new.disks.now) }
@@ -149,7 +149,7 @@ impl<'a, D: Disks> StripeWrite<'a, D> {
         requires left { length b.old.members.list + extra b.old.rebuild + 5 ≤ (D.shelf self.old.disks.now).left }
         requires place { 64 + self.old.stripe < (D.shelf self.old.disks.now).sectors }
         requires ready { (c : Columns) × Ready (D.shelf self.old.disks.now) (says b.old) c }
-        requires marks { MarksTrue (D.shelf self.old.disks.now) b.old.members.list b.old.members.dead }
+        requires marks { MarksTrue (D.shelf self.old.disks.now) b.old.members }
         requires few { b.old.generation + 1 < 2 ^ 64 }
         requires lent { length columns.now ≡ length b.old.members.list }
         ensures same { (self.new.disks.ghost_name ≡ self.old.disks.ghost_name) × ((self.new.stripe ≡ self.old.stripe) × (self.new.touched ≡ self.old.touched)) }
@@ -167,7 +167,7 @@ impl<'a, D: Disks> StripeWrite<'a, D> {
         requires left { count (length b.now.members.list) (chosen self.touched) + extra b.now.rebuild ≤ (D.shelf self.disks.now).left }
         requires place { (64 + self.stripe < (D.shelf self.disks.now).sectors) × (((D.shelf self.disks.now).sectors ≤ 4294967296) × (((says b.now).journal ≡ Some self.stripe) × (l.stripe ≡ self.stripe))) }
         requires sound { (c : Columns) × Sound (D.shelf self.disks.now) (says b.now) c }
-        requires marks { MarksTrue (D.shelf self.disks.now) b.now.members.list b.now.members.dead }
+        requires marks { MarksTrue (D.shelf self.disks.now) b.now.members }
         requires lent { length columns.now ≡ length b.now.members.list }
         ensures deaths { Deaths (D.shelf self.entry.disks.now) (D.seen self.entry.disks.now) (D.shelf self.exit.0.now) (D.seen self.exit.0.now) }
         ensures spent { (D.shelf self.entry.disks.now).left ≤ (D.shelf self.exit.0.now).left + (count (length b.now.members.list) (chosen self.entry.touched) + extra b.now.rebuild) }

@@ -12,6 +12,7 @@ use Rattle.field.specs.Stripe.{held, Put}
 use Rattle.store.specs.Stripes.{Loaded, extra, disk_of, Each, chosen, learned}
 use Rattle.store.specs.Shelf.{count}
 use Rattle.store.specs.Writes.{MarksTrue, journalling, Journalled, Unjournalled, Unplaced, Placing}
+use Rattle.store.proofs.Truths.{with_marks}
 use Rattle.store.proofs.Laws.{deaths_then}
 use Rattle.store.proofs.Standing.{ready_asked}
 use Rattle.store.proofs.Loads.{marks_went, marks_learned, marks_kept}
@@ -171,9 +172,9 @@ place-requires g c =
     let at-r2 : c.journal.new.self.stripe ≡ r = c.journal.ensures.same.1.0 ∙ at-r in
     let l = at_stripe c.args.n _ c.args.s r j some c.requires.size.1 c.locate-at.ensures.1 c.locate-at.ensures.0 in
     let dead : Each c.in_ok-missing.missing (λ i. (i < length ds) × ((g.D.Disks.shelf y).alive (disk_of ds r i) ≡ false)) = p.dead in
-    let marks-y : MarksTrue (g.D.Disks.shelf y) ds (learned b.members.dead c.in_ok-missing.missing r) = marks_learned (g.D.Disks.shelf y) ds b.members.dead c.in_ok-missing.missing r (marks_went w ds b.members.dead c.requires.marks) dead in
+    let marks-y : MarksTrue (g.D.Disks.shelf y) (with_marks ds (learned b.members.dead c.in_ok-missing.missing r)) = marks_learned (g.D.Disks.shelf y) ds b.members.dead c.in_ok-missing.missing r (marks_went w ds b.members.dead c.requires.marks) dead in
     let mem : c.journal.new.b.members ≡ c.learn.new.members = jl.2 in
-    let marks-z : MarksTrue (g.D.Disks.shelf z) ms c.journal.new.b.members.dead =
+    let marks-z : MarksTrue (g.D.Disks.shelf z) (with_marks ms c.journal.new.b.members.dead) =
     marks_kept (g.D.Disks.shelf z) (sym (ap (λ (v : Members). v.list) mem ∙ c.learn.ensures.list)) (sym (ap (λ (v : Members). v.dead) mem ∙ c.learn.ensures.marks)) (marks_deaths c.journal.ensures.deaths ds _ marks-y) in
     let long : length c.load.new.columns ≡ length c.args.columns.now = c.load.auto.columns in
     let long2 : length c.take.new.columns ≡ length c.load.new.columns = c.take.auto.columns in
@@ -186,7 +187,7 @@ place-requires g c =
       lent = omega (arith, many2, long, long2, c.requires.lent);
     }
 
-facts : (g : Over) (c : goal.After-d-2-1 g) → (Deaths (g.D.Disks.shelf c.args.d.now) (g.D.Disks.seen c.args.d.now) (g.D.Disks.shelf c.place.new.self.0) (g.D.Disks.seen c.place.new.self.0)) × ((g.D.Disks.shelf c.args.d.now).left ≤ (g.D.Disks.shelf c.place.new.self.0).left + (2 * length c.args.b.now.members.list + 2 * extra c.args.b.now.rebuild + 8)) × (c.journal.new.self.disks.ghost_name ≡ c.begin-change.result.disks.ghost_name) × (says c.journal.new.b ≡ journalling (says c.args.b.now) (stripe_of (c.args.n - 64) c.args.s)) × (MarksTrue (g.D.Disks.shelf c.place.new.self.0) c.journal.new.b.members.list c.journal.new.b.members.dead) × (Unplaced (says c.journal.new.b) (g.D.Disks.shelf c.journal.new.self.disks.now) (g.D.Disks.shelf c.place.new.self.0) → Unsaved c.args.n c.args.s c.args.words.now (says c.args.b.now) (g.D.Disks.shelf c.args.d.now) (g.D.Disks.shelf c.place.new.self.0)) × (Placing (chosen c.journal.new.self.touched) (says c.journal.new.b) c.journal.new.self.stripe (held c.take.new.columns) (g.D.Disks.shelf c.journal.new.self.disks.now) (g.D.Disks.shelf c.place.new.self.0) → Saved c.args.n c.args.s c.args.words.now (says c.args.b.now) (g.D.Disks.shelf c.args.d.now) (g.D.Disks.shelf c.place.new.self.0))
+facts : (g : Over) (c : goal.After-d-2-1 g) → (Deaths (g.D.Disks.shelf c.args.d.now) (g.D.Disks.seen c.args.d.now) (g.D.Disks.shelf c.place.new.self.0) (g.D.Disks.seen c.place.new.self.0)) × ((g.D.Disks.shelf c.args.d.now).left ≤ (g.D.Disks.shelf c.place.new.self.0).left + (2 * length c.args.b.now.members.list + 2 * extra c.args.b.now.rebuild + 8)) × (c.journal.new.self.disks.ghost_name ≡ c.begin-change.result.disks.ghost_name) × (says c.journal.new.b ≡ journalling (says c.args.b.now) (stripe_of (c.args.n - 64) c.args.s)) × (MarksTrue (g.D.Disks.shelf c.place.new.self.0) c.journal.new.b.members) × (Unplaced (says c.journal.new.b) (g.D.Disks.shelf c.journal.new.self.disks.now) (g.D.Disks.shelf c.place.new.self.0) → Unsaved c.args.n c.args.s c.args.words.now (says c.args.b.now) (g.D.Disks.shelf c.args.d.now) (g.D.Disks.shelf c.place.new.self.0)) × (Placing (chosen c.journal.new.self.touched) (says c.journal.new.b) c.journal.new.self.stripe (held c.take.new.columns) (g.D.Disks.shelf c.journal.new.self.disks.now) (g.D.Disks.shelf c.place.new.self.0) → Saved c.args.n c.args.s c.args.words.now (says c.args.b.now) (g.D.Disks.shelf c.args.d.now) (g.D.Disks.shelf c.place.new.self.0))
 facts g c =
     let b = c.args.b.now in
     let S = says c.args.b.now in
@@ -228,14 +229,14 @@ facts g c =
     let at-r2 : c.journal.new.self.stripe ≡ r = c.journal.ensures.same.1.0 ∙ at-r in
     let l = at_stripe c.args.n _ c.args.s r j some c.requires.size.1 c.locate-at.ensures.1 c.locate-at.ensures.0 in
     let dead : Each c.in_ok-missing.missing (λ i. (i < length ds) × ((g.D.Disks.shelf y).alive (disk_of ds r i) ≡ false)) = p.dead in
-    let marks-y : MarksTrue (g.D.Disks.shelf y) ds (learned b.members.dead c.in_ok-missing.missing r) = marks_learned (g.D.Disks.shelf y) ds b.members.dead c.in_ok-missing.missing r (marks_went w ds b.members.dead c.requires.marks) dead in
+    let marks-y : MarksTrue (g.D.Disks.shelf y) (with_marks ds (learned b.members.dead c.in_ok-missing.missing r)) = marks_learned (g.D.Disks.shelf y) ds b.members.dead c.in_ok-missing.missing r (marks_went w ds b.members.dead c.requires.marks) dead in
     let mem : c.journal.new.b.members ≡ c.learn.new.members = jl.2 in
-    let marks-z : MarksTrue (g.D.Disks.shelf z) ms c.journal.new.b.members.dead =
+    let marks-z : MarksTrue (g.D.Disks.shelf z) (with_marks ms c.journal.new.b.members.dead) =
     marks_kept (g.D.Disks.shelf z) (sym (ap (λ (v : Members). v.list) mem ∙ c.learn.ensures.list)) (sym (ap (λ (v : Members). v.dead) mem ∙ c.learn.ensures.marks)) (marks_deaths c.journal.ensures.deaths ds _ marks-y) in
     let v = c.place.new.self.0 in
     let all-died : Deaths (g.D.Disks.shelf x) (g.D.Disks.seen x) (g.D.Disks.shelf v) (g.D.Disks.seen v) = deaths_then died c.place.ensures.deaths in
     let few : (g.D.Disks.shelf x).left ≤ (g.D.Disks.shelf v).left + (2 * length ds + 2 * extra b.rebuild + 8) = omega (arith, many, adds, three, w.spent, c.journal.ensures.spent, c.place.ensures.spent) in
-    let marks-v : MarksTrue (g.D.Disks.shelf v) ms c.journal.new.b.members.dead = marks_deaths c.place.ensures.deaths ms _ marks-z in
+    let marks-v : MarksTrue (g.D.Disks.shelf v) (with_marks ms c.journal.new.b.members.dead) = marks_deaths c.place.ensures.deaths ms _ marks-z in
     let unplaced : Unplaced S' (g.D.Disks.shelf z) (g.D.Disks.shelf v) → Unsaved c.args.n c.args.s c.args.words.now S (g.D.Disks.shelf x) (g.D.Disks.shelf v) =
     λ o. unsaved_place S c.args.n c.args.s r j t u c.args.words.now some c.requires.size.1 c.locate-at.ensures.1 c.locate-at.ensures.0 k.proper.roster.most c.requires.size.0 within w p put q S' same-b o in
     let placed : Placing (chosen c.journal.new.self.touched) S' c.journal.new.self.stripe (held u) (g.D.Disks.shelf z) (g.D.Disks.shelf v) → Saved c.args.n c.args.s c.args.words.now S (g.D.Disks.shelf x) (g.D.Disks.shelf v) =
@@ -255,6 +256,6 @@ returns g c =
       spent = search rules;
       how =
           MatchResult-weaker c.place.result c.place.ensures.how
-          (λ _ o. let marks : MarksTrue (g.D.Disks.shelf c.place.new.self.0) c.journal.new.b.members.list c.journal.new.b.members.dead = (facts g c).4 in let saved : Saved c.args.n c.args.s c.args.words.now (says c.args.b.now) (g.D.Disks.shelf c.args.d.now) (g.D.Disks.shelf c.place.new.self.0) = (facts g c).6 o in ((facts g c).3, search rules, search rules))
+          (λ _ o. let marks : MarksTrue (g.D.Disks.shelf c.place.new.self.0) c.journal.new.b.members = (facts g c).4 in let saved : Saved c.args.n c.args.s c.args.words.now (says c.args.b.now) (g.D.Disks.shelf c.args.d.now) (g.D.Disks.shelf c.place.new.self.0) = (facts g c).6 o in ((facts g c).3, search rules, search rules))
           (λ _ o. let unsaved : Unsaved c.args.n c.args.s c.args.words.now (says c.args.b.now) (g.D.Disks.shelf c.args.d.now) (g.D.Disks.shelf c.place.new.self.0) = (facts g c).5 o in search rules);
     }
