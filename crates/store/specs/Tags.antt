@@ -2,8 +2,9 @@
 -- Assumes nothing.
 use Rattle.std.specs.Prelude.{◌≡◌, ℕ, ◌+◌, ◌%◌, ◌<◌, ◌≤◌, Bool, true, false, cond, not, ◌||◌, T, List, Some, None, Option, Ok, Err, Result, nat_le, nat_lt, slice_index_or}
 use Rattle.store.specs.Store.{Way, Free, Under, Over, core}
+use Rattle.store.specs.declared.tags.Tag.{Tag}
 use Rattle.store.specs.declared.refusal.Refusal.{Refusal}
-use Rattle.store.specs.declared.refusal.Refusal.TheVariants.{Tag, Sector, Unbuilt}
+use Rattle.store.specs.declared.refusal.Refusal.TheVariants.{Tag as BadTag, Sector, Unbuilt}
 use Rattle.store.specs.declared.Ask.{Ask}
 use Rattle.store.specs.declared.Ask.TheVariants.{Read, Write, Flush, Size, Add, Replace}
 
@@ -46,18 +47,23 @@ pub record First (t : ℕ) (a : Ask) (ts : List (Option Ask)) (cursor : ℕ) : T
   pub before : (j : ℕ) → j < k → at ts ((cursor + j) % 8) ≡ None
 
 -- what is due: the first from the cursor on, if there is any
-abbrev pub Due : Option (ℕ × Ask) → List (Option Ask) → ℕ → Type 0
+abbrev pub Due : Option (Tag × Ask) → List (Option Ask) → ℕ → Type 0
 Due None ts cursor = (j : ℕ) → j < 8 → at ts ((cursor + j) % 8) ≡ None
-Due (Some e) ts cursor = First e.0 e.1 ts cursor
+Due (Some e) ts cursor = First e.0.number e.1 ts cursor
+
+-- a number as a tag, if it is one
+abbrev pub TagOf : ℕ → Result Tag Refusal → Type 0
+TagOf n (Ok t) = t.number ≡ n
+TagOf n (Err why) = (why ≡ BadTag) × (8 ≤ n)
 
 -- the number by which a refusal is told
 abbrev pub number_of : Refusal → ℕ
-number_of Tag = 1
+number_of BadTag = 1
 number_of Sector = 3
 number_of Unbuilt = 9
 
 -- the number of why, or 0 where it is taken
-abbrev pub numbered : Result (Unit {0}) Refusal → ℕ
+abbrev pub numbered : {A : Type 0} → Result A Refusal → ℕ
 numbered (Ok _) = 0
 numbered (Err why) = number_of why
 

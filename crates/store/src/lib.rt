@@ -163,13 +163,15 @@ impl Store {
         ensures goes { (x : Shelf) (es : List Event) → Serving self.old room.old x es → Serving self.new room.new (answered result a x) (said result tag a words.now ∷ es) }
         ensures kept { ((0 < result → self.new ≡ self.old)) × ((0 < result → room.new ≡ room.old)) }
     {
-        if let Err(why) = self.admit(tag, a) {
-            return why.into();
+        match self.admit(tag, a) {
+            Err(why) => why.into(),
+            Ok(t) => {
+                let at = 64 * t.index();
+                room[at..at + 64].copy_from_slice(words);
+                self.tags.note(t, a);
+                0
+            }
         }
-        let at = 64 * tag as usize;
-        room[at..at + 64].copy_from_slice(words);
-        self.tags.note(tag, a);
-        0
     }
 
     // A turn, in which one that waits is done and told; what a read has read stands in `words`.
@@ -192,7 +194,11 @@ impl Store {
         };
         let reply = self.perform(d, room, tag, ask, words)?;
         self.tags.close(tag);
-        Ok(Some(Ended { tag, ask, reply }))
+        Ok(Some(Ended {
+            tag: tag.into(),
+            ask,
+            reply,
+        }))
     }
 }
 
