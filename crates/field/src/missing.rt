@@ -1,4 +1,5 @@
-// Which columns of a stripe are missing: none, one or two.
+// Which columns of a stripe are missing: none, one or two. Members keep marks of the same shape, which aren't in order, are looked
+// through before one is added, and are let go again: one type for both would have two ways to add.
 // It touches nothing.
 ghost use Rattle.std.specs.Prelude.{◌≡◌};
 

@@ -1,5 +1,8 @@
 // A stripe of 4 to 12 columns: column 0 is P, 1 is Q, 2 + j is data column j.
 // It touches nothing but the columns that it is lent, and tells its steps: each sum and each doubling of a word is one.
+//
+// That there are 4 to 12 columns stands in each contract: a struct round the slice that is lent would have to promise in each method, in
+// place of that, that it still holds the same slice.
 ghost use Rattle.std.specs.Prelude.{◌≡◌, ℕ, ◌+◌, ◌-◌, ◌*◌, ◌<◌, ◌≤◌, length};
 ghost use Rattle.field.specs.Column.{Good, IsP, IsQ};
 ghost use Rattle.field.specs.Stripe.{data_of, held, Few, Anew, Left, Restores, MendsTwo, Put};

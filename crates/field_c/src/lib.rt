@@ -1,4 +1,5 @@
-// The field's calls for programs in C and Rust, as a static library. They touch nothing but the words that they are lent.
+// The field's calls for programs in C and Rust, as a static library. They touch nothing but the words that they are lent. C has no
+// `Result`, so each has a contract of its own: false says that it was refused.
 #![tactic(auto)]
 
 ghost use Rattle.std.specs.Prelude.{◌≡◌, ◌-◌, true, false};

@@ -92,6 +92,7 @@ impl Tags {
         requires { self.now.cursor < 8 }
         ensures { Due result self.now.asked self.now.cursor }
     {
+        // It goes round, so the tags are counted: what is behind the cursor and then what is before it is no plainer as a chain.
         for k in 0..8u32 {
             let t = Tag {
                 number: (self.cursor + k) % 8,
