@@ -1,8 +1,8 @@
 -- The stripe that lies in a slice of columns, and a data column put into it.
 -- Assumes nothing.
-use Rattle.std.proofs.Common.{◌≡◌, ℕ, ◌+◌, ◌-◌, ◌<◌, ◌≤◌, List, length, sym, ◌∙◌, arith}
+use Rattle.std.proofs.Common.{◌≡◌, ℕ, ◌+◌, ◌-◌, ◌<◌, ◌≤◌, sym, ◌∙◌, arith}
 use Rattle.field.specs.Column.{Sector, noughts, Good}
-use Rattle.field.specs.Stripe.{data_of, held, Codeword, Lies, Written, Anew, Put}
+use Rattle.field.specs.Stripe.{data_of, Written, Anew, Put}
 use Rattle.field.proofs.Parities.{nothing_behind_lem}
 
 module _ (k j : ℕ) (w : Sector) (s u t : ℕ → Sector) (few : 4 ≤ k) (l : 2 + j < k) (good : (i : ℕ) → Good (t i)) (beyond : (i : ℕ) → k ≤ i → t i ≡ noughts)

@@ -7,9 +7,6 @@ use Rattle.store.proofs.Opening.{serving_allowed}
 use Rattle.store.proofs.serve.Goals as goal
 use Rattle.store.proofs.serve.Goals.{in-Some+else-not-said, in_default}
 
-pub ask-why-requires : goal.ask-why-requires
-ask-why-requires g c = record { lent = search rules; held = (g.W.Disks.shelf c.loop-t.w, (g.W.Disks.seen c.loop-t.w, c.loop-t.invariant.0)) }
-
 -- what is asked, said as `ask` has it, is explained
 pub said-requires : goal.said-requires
 said-requires g c = (
@@ -39,17 +36,14 @@ turn-requires g c =
       early = omega (arith, same, ap ticks c.allow.ensures.1, c.loop-t.invariant.1, c.requires.early, c.loop-t-test.true);
     }
 
-pub returns-in-Err : goal.returns-in-Err
-returns-in-Err g c =
+pub returns-in-Err-clause-ticked : goal.returns-in-Err-clause-ticked
+returns-in-Err-clause-ticked g c =
     let same : ticks (g.W.Disks.seen c.match-next.w) ≡ ticks (g.W.Disks.seen c.loop-t.w) =
     elim c.match-next.branch [
       | in-Some+else-not-said w ↦ ap (λ v. ticks (g.W.Disks.seen v)) w.w-is ∙ (ap ticks (w.if-not-said.ensures.0 tt) ∙ (ticks_said w.ask-why.result w.in-Some.tag w.in-Some.a c.next.new.words (g.W.Disks.seen c.next.new.self) ∙ ap ticks c.next.ensures.1))
       | in_default w ↦ ap (λ v. ticks (g.W.Disks.seen v)) w.w-is ∙ ap ticks c.next.ensures.1
     ] in
-    record {
-      stops = c.in-Err.ensures.after;
-      ticked = λ _. omega (arith, same, c.in-Err.ensures.ticked, ap ticks c.allow.ensures.1, c.loop-t.invariant.1, c.loop-t-test.true);
-    }
+    λ _. omega (arith, same, c.in-Err.ensures.ticked, ap ticks c.allow.ensures.1, c.loop-t.invariant.1, c.loop-t-test.true)
 
 pub told-requires : goal.told-requires
 told-requires g c =

@@ -1,4 +1,4 @@
-use Rattle.std.proofs.Common.{◌≡◌, ℕ, ◌+◌, ◌*◌, ap, ◌∙◌, arith}
+use Rattle.std.proofs.Common.{◌∙◌, arith}
 use Rattle.field.proofs.Loops.{upto_none, upto_more, upto_all}
 use Rattle.field.proofs.column.add_to.Goals as goal
 
@@ -11,9 +11,5 @@ loop-i-preserved g c = (
   omega arith,
 )
 
-pub returns : goal.returns
-returns g c = record {
-  value = c.loop-i.invariant.0 ∙ upto_all g.R.Raising.raise c.args.to.now c.args.other.now c.loop-i.i (omega arith) (omega arith);
-  good = record { long = omega arith; words = c.fits-other };
-  steps = let e : c.loop-i.i ≡ 64 = omega arith in c.loop-i.invariant.1 ∙ ap (λ (n : ℕ). n * (g.R.Raising.STEPS + 1)) e;
-}
+pub returns-clause-value : goal.returns-clause-value
+returns-clause-value g c = c.loop-i.invariant.0 ∙ upto_all g.R.Raising.raise c.args.to.now c.args.other.now c.loop-i.i (omega arith) (omega arith)

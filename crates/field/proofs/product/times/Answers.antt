@@ -1,4 +1,4 @@
-use Rattle.std.proofs.Common.{◌≡◌, ℕ, ◌+◌, ◌-◌, ◌/◌, ◌^◌, ap, ◌∙◌, ap₂, div-one, arith}
+use Rattle.std.proofs.Common.{◌≡◌, ℕ, ◌+◌, ◌-◌, ◌/◌, ◌^◌, ap, ◌∙◌, ap₂, arith}
 use lib.Bits.{bit_xor}
 use Rattle.field.specs.Field.{product_by}
 use Rattle.field.proofs.Loops.{product_none, product_more}
@@ -17,10 +17,3 @@ loop-j-preserved g c =
     c.plus-r.ensures
     ∙ ap₂ bit_xor c.picked.ensures (c.twice.ensures ∙ ap f (c.loop-j.invariant ∙ ap (λ (n : ℕ). product_by f (8 - c.loop-j.j) (c.args.c / 2 ^ n) v) e))
     ∙ product_more f (8 - c.loop-j.j) i c.args.c v ∙ ap (λ (n : ℕ). product_by f n (c.args.c / 2 ^ i) v) m
-
-pub returns : goal.returns
-returns g c =
-    let e : c.loop-j.j ≡ 0 = omega arith in
-    c.loop-j.invariant
-    ∙ ap (λ (n : ℕ). product_by g.V.Doubles.double (8 - n) (c.args.c / 2 ^ n) (g.V.Doubles.number c.args.v)) e
-    ∙ ap (λ (n : ℕ). product_by g.V.Doubles.double 8 n (g.V.Doubles.number c.args.v)) (div-one c.args.c)

@@ -6,8 +6,8 @@ use Rattle.field.proofs.Slices.{written}
 use Rattle.field.proofs.Mending.{mends_both}
 use Rattle.field.proofs.stripe.from_both.Goals as goal
 
-pub returns : goal.returns
-returns c =
+pub returns-clause-mended : goal.returns-clause-mended
+returns-clause-mended c =
     let s : List Sector = c.args.stripe.now in
     let a : ℕ = c.args.a in
     let b : ℕ = c.args.b in
@@ -20,10 +20,7 @@ returns c =
     let lu : length u ≡ length s = length-set s a z in
     let lv : length v ≡ length s = length-set u b z ∙ lu in
     let lt : length t ≡ length s = length-set v a p ∙ lv in
-    record {
-      mended = mends_both (length s) a b (held s) (held u) (held v) (held t) (held (set t b q)) z z c.left-steps.new.p c.left-steps.new.q p q
-          (omega arith) (omega arith) (omega arith) (omega arith) (omega arith) refl refl (written a z s (omega arith)) (written b z u (omega arith))
-          (subst (λ (k : ℕ). Left k (held v) c.left-steps.new.p c.left-steps.new.q) lv c.left-steps.ensures.value) c.solve-solved.ensures.value
-          (written a p v (omega arith)) (written b q t (omega arith));
-      steps = omega arith;
-    }
+    mends_both (length s) a b (held s) (held u) (held v) (held t) (held (set t b q)) z z c.left-steps.new.p c.left-steps.new.q p q
+    (omega arith) (omega arith) (omega arith) (omega arith) (omega arith) refl refl (written a z s (omega arith)) (written b z u (omega arith))
+    (subst (λ (k : ℕ). Left k (held v) c.left-steps.new.p c.left-steps.new.q) lv c.left-steps.ensures.value) c.solve-solved.ensures.value
+    (written a p v (omega arith)) (written b q t (omega arith))

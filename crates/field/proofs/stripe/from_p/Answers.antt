@@ -6,16 +6,13 @@ use Rattle.field.proofs.Slices.{written}
 use Rattle.field.proofs.Mending.{restores_p}
 use Rattle.field.proofs.stripe.from_p.Goals as goal
 
-pub returns : goal.returns
-returns c =
+pub returns-clause-restored : goal.returns-clause-restored
+returns-clause-restored c =
     let s : List Sector = c.args.stripe.now in
     let i : ℕ = c.args.i in
     let p : Sector = c.left-steps.new.p in
     let q : Sector = c.left-steps.new.q in
     let u : List Sector = set s i (replicate 64 0) in
     let l : length u ≡ length s = length-set s i (replicate 64 0) in
-    record {
-      restored = restores_p (length s) i (held s) (held u) (held (set u i p)) (replicate 64 0) p q (omega arith) (omega arith) (omega arith) (omega arith) refl
-          (written i (replicate 64 0) s (omega arith)) (subst (λ (k : ℕ). Left k (held u) p q) l c.left-steps.ensures.value) (written i p u (omega arith));
-      steps = omega arith;
-    }
+    restores_p (length s) i (held s) (held u) (held (set u i p)) (replicate 64 0) p q (omega arith) (omega arith) (omega arith) (omega arith) refl
+    (written i (replicate 64 0) s (omega arith)) (subst (λ (k : ℕ). Left k (held u) p q) l c.left-steps.ensures.value) (written i p u (omega arith))

@@ -1,19 +1,12 @@
-use Rattle.std.proofs.Common.{◌≡◌, ℕ, ◌+◌, ◌-◌, ◌*◌, ◌≤◌, [], ◌∷◌, ◌++◌, length, drop, refl, ap, ◌∙◌, subst, length-append, length-drop, arith, Iter}
+use Rattle.std.proofs.Common.{◌≡◌, ℕ, ◌+◌, ◌-◌, ◌*◌, [], ◌∷◌, ◌++◌, length, drop, refl, ap, ◌∙◌, subst, length-append, length-drop, arith, Iter}
 use Rattle.std.proofs.lemmas.List.{take_all}
 use Rattle.std.specs.declared.iter.Rev.{Rev}
-use Rattle.std.proofs.Math.Nat.{mul-le-mul}
 use Rattle.field.specs.Column.{Sector, Good}
 use Rattle.field.specs.Stripe.{held}
 use Rattle.field.specs.Word.{double8}
 use Rattle.field.proofs.Loops.{not_raised, raised_by}
 use Rattle.field.proofs.Gathering.{Gathered, way_none, way_more, gathered_p, gathered_q}
 use Rattle.field.proofs.stripe.parity.Goals as goal
-
--- all steps are few enough to be counted
-counted : (s k t r : ℕ) → s ≤ 8 → k ≤ 12 → t + 64 * (s + 2) * r ≡ 64 * (s + 2) * (k - 2) → t ≤ 6400
-counted s k t r ls lk e =
-    let m : (s + 2) * (k - 2) ≤ 10 * 10 = mul-le-mul {n₁ = s + 2} {m₁ = k - 2} {n₂ = 10} {m₂ = 10} (omega arith) (omega arith) in
-    omega (arith, m)
 
 stepped : (s m n t x y e : ℕ) → m ≡ n + 1 → x ≡ 64 → y ≡ 64 * (s + 1) → t + 64 * (s + 2) * m ≡ e → t + x + y + 64 * (s + 2) * n ≡ e
 stepped s m n t x y e em ex ey h = let z : 64 * (s + 2) * m ≡ 64 * (s + 2) * (n + 1) = ap (λ (i : ℕ). 64 * (s + 2) * i) em in omega arith
@@ -30,14 +23,6 @@ loop-column-init g c =
       way = way_none c.args.stripe.now _ _ _ (omega arith) e refl refl;
       steps = let z : 64 * (g.D.Raising.STEPS + 2) * length c.into_iter-column-iterator.result.iter.rest.now ≡ 64 * (g.D.Raising.STEPS + 2) * (length c.args.stripe.now - 2) = ap (λ (m : ℕ). 64 * (g.D.Raising.STEPS + 2) * m) n in omega arith;
     }
-
-pub overflow_add-steps : goal.overflow_add-steps
-overflow_add-steps g c = let l = counted g.D.Raising.STEPS (length c.args.stripe.now) c.loop-column.steps (length c.loop-column.column-iterator.iter.rest.now) g.met.D.Raising.few (omega arith) c.loop-column.invariant.steps in omega arith
-
-pub overflow_add-steps-in-loop-column : goal.overflow_add-steps-in-loop-column
-overflow_add-steps-in-loop-column g c =
-    let h = g.met.D.Raising.few in
-    let l = counted g.D.Raising.STEPS (length c.args.stripe.now) c.loop-column.steps (length c.loop-column.column-iterator.iter.rest.now) g.met.D.Raising.few (omega arith) c.loop-column.invariant.steps in omega (arith, h)
 
 pub loop-column-preserved : goal.loop-column-preserved
 loop-column-preserved g c =

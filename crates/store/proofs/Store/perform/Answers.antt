@@ -4,7 +4,6 @@ use Rattle.field.specs.Stripe.{column}
 use Rattle.layout.specs.Super.{says}
 use Rattle.store.specs.Store.{core}
 use Rattle.layout.specs.Places.{stripe_of}
-use Rattle.store.specs.Stripes.{extra}
 use Rattle.store.specs.Writes.{journalling}
 use Rattle.store.specs.Sectors.{sector_of, Saved, Unsaved}
 use Rattle.store.specs.Tags.{Reaches}
@@ -14,25 +13,19 @@ use Rattle.store.specs.declared.Ask.TheVariants.{Read, Write, Flush, Size, Add, 
 use Rattle.store.specs.declared.Reply.TheVariants.{Bytes, Done, Many}
 use Rattle.store.proofs.Laws.{deaths_none}
 use Rattle.store.proofs.Standing.{ready_asked}
-use Rattle.store.proofs.Performing.{under, asks_for, within, tags_kept, performed_read, performed_write, performed_flush, performed_size, lost_sound, lost_write, size_is, chunk_room}
+use Rattle.store.proofs.Performing.{under, asks_for, within, tags_kept, performed_read, performed_write, performed_flush, performed_size, lost_sound, lost_write, size_is}
 use Rattle.store.proofs.Store.perform.Goals as goal
 
 -- the words that were lent with a tag
 lent_words : (i t : ℕ) (room : List ℕ) → i ≡ t → take (64 * i + 64 - 64 * i) (drop (64 * i) room) ≡ column t room
 lent_words i t room e = let n : 64 * i + 64 - 64 * i ≡ 64 = omega arith in ap (λ (m : ℕ). take m (drop (64 * i) room)) n ∙ ap (λ (j : ℕ). column j room) e
 
-pub read-requires : goal.read-requires
-read-requires g c =
+pub read-requires-clause-size : goal.read-requires-clause-size
+read-requires-clause-size g c =
     let v = c.requires.held in
     let k = v.stands.ready.sound.kept.proper.roster in
     let fits = subst (λ a. Reaches a ((length c.args.self.now.superblock.members.list - 2) * (c.args.self.now.sectors - 64))) c.in-Read.is (within v c.args.tag.number c.args.tag.eight c.args.a c.requires.taken) in
-    record {
-      left = omega (arith, c.requires.soon, k.most);
-      size = (v.stands.same, fits);
-      ready = (v.c, v.stands.ready);
-      marks = v.stands.marks;
-      lent = chunk_room c.many.result _ c.args.room.now c.as_chunks_mut-columns.result.0.now c.many.ensures.is.0 k.most c.requires.lent.0 c.as_chunks_mut-columns.ensures.front_len;
-    }
+    (v.stands.same, fits)
 
 pub returns-in_err-read-in-Read : goal.returns-in_err-read-in-Read
 returns-in_err-read-in-Read g c =
@@ -45,19 +38,12 @@ returns-in_err-read-in-Read g c =
           (λ _. lost_sound v w.deaths c.in_err-read-in-Read.ensures.how (ready_asked w (says c.args.self.now.superblock) v.c v.stands.ready).sound);
     }
 
-pub write-requires : goal.write-requires
-write-requires g c =
+pub write-requires-clause-size : goal.write-requires-clause-size
+write-requires-clause-size g c =
     let v = c.requires.held in
     let k = v.stands.ready.sound.kept.proper.roster in
     let fits = subst (λ a. Reaches a ((length c.args.self.now.superblock.members.list - 2) * (c.args.self.now.sectors - 64))) c.in-Write.is (within v c.args.tag.number c.args.tag.eight c.args.a c.requires.taken) in
-    record {
-      left = omega (arith, ap extra v.stands.explains.idle, c.requires.soon, k.most);
-      size = (v.stands.same, fits);
-      ready = (v.c, (v.stands.ready, v.stands.explains.coded));
-      marks = v.stands.marks;
-      few = omega (arith, v.stands.explains.early, c.requires.early);
-      lent = chunk_room c.many.result _ c.args.room.now c.as_chunks_mut-columns-in-Write.result.0.now c.many.ensures.is.0 k.most c.requires.lent.0 c.as_chunks_mut-columns-in-Write.ensures.front_len;
-    }
+    (v.stands.same, fits)
 
 pub returns-in_err-write-in-Write : goal.returns-in_err-write-in-Write
 returns-in_err-write-in-Write g c =

@@ -7,14 +7,14 @@ use Rattle.store.proofs.Histories.{ticks_deaths}
 use Rattle.store.proofs.Turning.{rests, tells_one}
 use Rattle.store.proofs.Store.turn.Goals as goal
 
-pub returns-in_default : goal.returns-in_default
-returns-in_default g c = record { only = λ e. absurd (true≢false e); after = record { goes = rests c.requires.held c.in_default.ensures }; ticked = refl }
+pub returns-in_default-clause-after : goal.returns-in_default-clause-after
+returns-in_default-clause-after g c = record { goes = rests c.requires.held c.in_default.ensures }
 
-pub returns-in_err-reply : goal.returns-in_err-reply
-returns-in_err-reply g c =
+pub returns-in_err-reply-clause-ticked : goal.returns-in_err-reply-clause-ticked
+returns-in_err-reply-clause-ticked g c =
     let p = err_from_is_err_and c.from_residual.result c.from_residual.ensures.1 in
     let lost = c.in_err-reply.ensures.how in
-    record { only = λ _. lost.off; after = simp p.1 lost; ticked = ticks_deaths c.perform.ensures.deaths }
+    ticks_deaths c.perform.ensures.deaths
 
 pub returns : goal.returns
 returns g c =

@@ -1,10 +1,9 @@
 use Rattle.std.proofs.Common.{◌≡◌, ℕ, ◌<◌, ◌≤◌, List, length, get_or, take, ap, ◌∙◌, arith}
 use Rattle.std.proofs.lemmas.List.{get_or-take, length-take-le}
-use Rattle.std.proofs.lemmas.Result.{MatchResult-from_err}
 use Rattle.layout.specs.Super.{says}
 use Rattle.store.specs.Durable.{Employed}
 use Rattle.store.proofs.Laws.{went_longer}
-use Rattle.store.proofs.Heads.{copying_none, copying_more, copying_went, copying_is}
+use Rattle.store.proofs.Heads.{copying_none, copying_more, copying_went}
 use Rattle.store.proofs.commit.write_copies.Goals as goal
 
 -- the first three of four or more
@@ -25,22 +24,14 @@ write_sector-requires g c =
     let e : Employed (g.D.Disks.shelf c.loop-at.d) (get_or (take 3 c.disks.result.now) c.loop-at.at-index 0) = rw (three_at _ _ ds.is c.loop-at.at-index lt) (w.deaths.employed _ (c.requires.heads.employed c.loop-at.at-index lt)) in
     ((omega (arith, w.spent, c.requires.left), e.there, omega (arith, w.deaths.size, c.requires.heads.size)), e.used)
 
-pub returns-in_err-write_sector : goal.returns-in_err-write_sector
-returns-in_err-write_sector g c =
+pub returns-in_err-write_sector-clause-went : goal.returns-in_err-write_sector-clause-went
+returns-in_err-write_sector-clause-went g c =
     let ds = c.disks.ensures in
     let lt : c.loop-at.at-index < 3 = omega (arith, three _ _ ds.is ds.roster.least) in
-    record {
-      went = went_longer (omega arith) (copying_went c.requires.lent lt (three_at _ _ ds.is _ lt) c.loop-at.invariant c.write_sector.ensures.went);
-      how = MatchResult-from_err c.from_residual.result _ _ c.from_residual.ensures.0 (λ _. c.in_err-write_sector.ensures.how);
-    }
+    went_longer (omega arith) (copying_went c.requires.lent lt (three_at _ _ ds.is _ lt) c.loop-at.invariant c.write_sector.ensures.went)
 
 pub loop-at-preserved : goal.loop-at-preserved
 loop-at-preserved g c =
     let ds = c.disks.ensures in
     let lt : c.loop-at.at-index < 3 = omega (arith, three _ _ ds.is ds.roster.least) in
     copying_more c.requires.lent lt (three_at _ _ ds.is _ lt) c.loop-at.invariant c.write_sector.ensures.went c.in_ok-write_sector.ensures.how.shows
-
-pub returns : goal.returns
-returns g c =
-    let ds = c.disks.ensures in
-    let m = copying_is (omega (arith, three _ _ ds.is ds.roster.least)) c.loop-at.invariant in record { went = m.went; how = m }

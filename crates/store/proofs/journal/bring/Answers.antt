@@ -1,16 +1,12 @@
 use Rattle.std.proofs.Common.{refl, inl, inr, arith}
-use Rattle.std.proofs.lemmas.Result.{MatchResult-from_err}
 use Rattle.layout.specs.Super.{says}
 use Rattle.store.proofs.Laws.{went_none, went_then, went_longer, went_wider}
 use Rattle.store.proofs.Standing.{slot_low}
-use Rattle.store.proofs.Carried.{level_across, brought_none, brought_members, brought_fill, slot_apart, inside_some, fills_of, fills_by, fills_none}
+use Rattle.store.proofs.Carried.{level_across, brought_members, brought_fill, slot_apart, inside_some, fills_of, fills_by, fills_none}
 use Rattle.store.proofs.journal.bring.Goals as goal
 
-pub returns-in_default : goal.returns-in_default
-returns-in_default g c = record { went = went_longer (omega arith) (went_none _ _ _); how = (λ on. on, brought_none (says c.args.b.now) (g.D.Disks.shelf c.args.d.now) c.in_default.is) }
-
-pub overflow_add-to : goal.overflow_add-to
-overflow_add-to g c = let l = inside_some c.args.b.now.journal c.in-Some.r _ c.in-Some.is c.requires.size.1.1 in omega (arith, l, c.requires.size.1.0)
+pub returns-in_default-clause-went : goal.returns-in_default-clause-went
+returns-in_default-clause-went g c = went_longer (omega arith) (went_none _ _ _)
 
 pub carry_all-requires : goal.carry_all-requires
 carry_all-requires g c =
@@ -23,12 +19,8 @@ carry_all-requires g c =
       employed = λ p h. c.requires.employed _ p 0 (inl (h, refl));
     }
 
-pub returns-in_err-carry_all : goal.returns-in_err-carry_all
-returns-in_err-carry_all g c =
-    record {
-      went = went_longer (omega arith) (level_across (says c.args.b.now) c.slot_of-from.ensures c.in-Some.is c.carry_all.ensures.went);
-      how = MatchResult-from_err c.from_residual.result _ _ c.from_residual.ensures.0 (λ _. c.in_err-carry_all.ensures.how);
-    }
+pub returns-in_err-carry_all-clause-went : goal.returns-in_err-carry_all-clause-went
+returns-in_err-carry_all-clause-went g c = went_longer (omega arith) (level_across (says c.args.b.now) c.slot_of-from.ensures c.in-Some.is c.carry_all.ensures.went)
 
 pub carry-requires : goal.carry-requires
 carry-requires g c =
@@ -41,14 +33,11 @@ carry-requires g c =
       employed = w.deaths.employed _ (c.requires.employed _ c.in-Some-rebuild.fill.place c.in-Some.r (inr (fills_by c.args.b.now.rebuild c.in-Some-rebuild.fill c.in-Some.r c.in-Some-rebuild.is c.if-r-fill.true)));
     }
 
-pub returns-in_err-carry : goal.returns-in_err-carry
-returns-in_err-carry g c =
+pub returns-in_err-carry-clause-went : goal.returns-in_err-carry-clause-went
+returns-in_err-carry-clause-went g c =
     let S = says c.args.b.now in
-    record {
-      went = went_then (level_across S c.slot_of-from.ensures c.in-Some.is c.carry_all.ensures.went)
-          (level_across S c.slot_of-from.ensures c.in-Some.is (went_wider {n = 2} (omega arith) (λ d s a v. v.1) c.carry.ensures.went));
-      how = MatchResult-from_err c.from_residual-in_err-carry.result _ _ c.from_residual-in_err-carry.ensures.0 (λ _. c.in_err-carry.ensures.how);
-    }
+    went_then (level_across S c.slot_of-from.ensures c.in-Some.is c.carry_all.ensures.went)
+    (level_across S c.slot_of-from.ensures c.in-Some.is (went_wider {n = 2} (omega arith) (λ d s a v. v.1) c.carry.ensures.went))
 
 pub returns-in_ok-carry : goal.returns-in_ok-carry
 returns-in_ok-carry g c =

@@ -5,13 +5,8 @@ use Rattle.store.proofs.Laws.{deaths_then}
 use Rattle.store.proofs.Upward.{recovered_kept, up_now, down_later, down_first}
 use Rattle.store.proofs.recovery.come_up.Goals as goal
 
-pub returns-in_err-found : goal.returns-in_err-found
-returns-in_err-found g c =
-    record {
-      deaths = c.recover.ensures.deaths;
-      spent = omega (arith, c.recover.ensures.spent);
-      how = MatchResult-from_err c.from_residual.result _ _ c.from_residual.ensures.0 (λ _. down_first c.in_err-found.ensures.how);
-    }
+pub returns-in_err-found-clause-how : goal.returns-in_err-found-clause-how
+returns-in_err-found-clause-how g c = MatchResult-from_err c.from_residual.result _ _ c.from_residual.ensures.0 (λ _. down_first c.in_err-found.ensures.how)
 
 pub bring-requires : goal.bring-requires
 bring-requires g c =

@@ -1,5 +1,4 @@
 use Rattle.std.proofs.Common.{◌≡◌, ℕ, ◌<◌, List, length, get_or, set, sym, ap, ◌∙◌, arith, get_or-set_same}
-use Rattle.std.proofs.lemmas.Result.{MatchResult-from_err}
 use Rattle.layout.specs.Super.{Super, super_of}
 use Rattle.layout.proofs.Coding.{unmarked_says}
 use Rattle.store.proofs.Truths.{true-T}
@@ -18,16 +17,8 @@ unmarked b l =
 pub loop-i-init : goal.loop-i-init
 loop-i-init g c = look_none _ _ _ (unmarked _ c.told-best)
 
-pub read_sector-requires : goal.read_sector-requires
-read_sector-requires g c =
-    let w = c.loop-i.invariant.went in (omega (arith, w.spent, c.requires.left), omega arith, omega (arith, w.deaths.size, c.requires.size))
-
-pub returns-in_err-read_sector : goal.returns-in_err-read_sector
-returns-in_err-read_sector g c =
-    record {
-      went = went_longer (omega arith) (went_then c.loop-i.invariant.went c.read_sector.ensures.went);
-      how = MatchResult-from_err c.from_residual.result _ _ c.from_residual.ensures.0 (λ _. c.in_err-read_sector.ensures.how);
-    }
+pub returns-in_err-read_sector-clause-went : goal.returns-in_err-read_sector-clause-went
+returns-in_err-read_sector-clause-went g c = went_longer (omega arith) (went_then c.loop-i.invariant.went c.read_sector.ensures.went)
 
 pub loop-i-preserved : goal.loop-i-preserved
 loop-i-preserved g c =

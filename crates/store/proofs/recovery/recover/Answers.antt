@@ -6,32 +6,21 @@ use Rattle.store.proofs.Laws.{deaths_then}
 use Rattle.store.proofs.Choosing.{recovered, lapsed_later, lapsed_first, found_proper, found_employed}
 use Rattle.store.proofs.recovery.recover.Goals as goal
 
-pub look-requires : goal.look-requires
-look-requires g c = record { left = omega (arith, c.requires.left); size = omega (arith, c.requires.held.torn.old.least) }
-
-pub returns-in_err-look : goal.returns-in_err-look
-returns-in_err-look g c =
-    record {
-      deaths = c.look.ensures.went.deaths;
-      spent = omega (arith, c.look.ensures.went.spent);
-      how = MatchResult-from_err c.from_residual.result _ _ c.from_residual.ensures.0 (λ _. lapsed_first c.look.ensures.went c.in_err-look.ensures.how);
-    }
+pub returns-in_err-look-clause-how : goal.returns-in_err-look-clause-how
+returns-in_err-look-clause-how g c = MatchResult-from_err c.from_residual.result _ _ c.from_residual.ensures.0 (λ _. lapsed_first c.look.ensures.went c.in_err-look.ensures.how)
 
 pub decode-found-requires : goal.decode-found-requires
 decode-found-requires g c = found_proper c.in_ok-look.ensures.how _ _ _ _ c.requires.held.torn
 
-pub head-requires : goal.head-requires
-head-requires g c =
+pub head-requires-clause-heads : goal.head-requires-clause-heads
+head-requires-clause-heads g c =
     let p = c.in_ok-look.ensures.how in
     let o = c.requires.held in
     let e = sym c.decode-found.ensures.0 in
     record {
-      left = omega (arith, p.went.spent, c.requires.left);
-      heads = record {
-        size = omega (arith, p.went.deaths.size, o.torn.old.least);
-        proper = subst Proper e (found_proper p _ _ _ _ o.torn);
-        employed = λ i l. subst (λ (Q : Super). Employed (g.D.Disks.shelf c.look.new.d) (get_or Q.members i 0)) e (found_employed p _ _ _ _ o.torn i l);
-      };
+      size = omega (arith, p.went.deaths.size, o.torn.old.least);
+      proper = subst Proper e (found_proper p _ _ _ _ o.torn);
+      employed = λ i l. subst (λ (Q : Super). Employed (g.D.Disks.shelf c.look.new.d) (get_or Q.members i 0)) e (found_employed p _ _ _ _ o.torn i l);
     }
 
 pub returns-in_err-head : goal.returns-in_err-head

@@ -24,12 +24,6 @@ use Rattle.store.proofs.sectors.write.Goals as goal
 along : {D : Type 0} {x y v w : D} (P : D → D → Type 0) → v ≡ x → y ≡ w → P v w → P x y
 along {x = x} {w = w} P p q t = subst (λ a. P x a) (sym q) (subst (λ a. P a w) p t)
 
-pub overflow_sub-n : goal.overflow_sub-n
-overflow_sub-n g c = omega (arith, c.requires.size.0, c.requires.ready.1.0.sound.kept.least)
-
-pub locate-at-requires : goal.locate-at-requires
-locate-at-requires g c = omega (arith, c.requires.size.0, c.requires.ready.1.0.sound.kept.least)
-
 pub load-requires : goal.load-requires
 load-requires g c =
     let k = c.requires.ready.1.0.sound.kept in
@@ -45,8 +39,8 @@ load-requires g c =
     })
 
 -- the disks after the load, against those that were lent
-pub returns-in_err-missing : goal.returns-in_err-missing
-returns-in_err-missing g c =
+pub returns-in_err-missing-clause-how : goal.returns-in_err-missing-clause-how
+returns-in_err-missing-clause-how g c =
     let ds = c.args.b.now.members.list in
     let x = c.args.d.now in
     let y = c.load.new.self.disks.now in
@@ -56,15 +50,15 @@ returns-in_err-missing g c =
     let gone : Unsaved c.args.n c.args.s c.args.words.now (says c.args.b.now) (g.D.Disks.shelf x) (g.D.Disks.shelf y) = unsaved_load w c.in_err-missing.ensures.how in
     let few : (g.D.Disks.shelf x).left ≤ (g.D.Disks.shelf y).left + (2 * length ds + 2 * extra c.args.b.now.rebuild + 8) = omega (arith, w.spent) in
     let died : Deaths (g.D.Disks.shelf x) (g.D.Disks.seen x) (g.D.Disks.shelf y) (g.D.Disks.seen y) = w.deaths in
-    record { deaths = search rules; spent = search rules; how = MatchResult-from_err c.from_residual.result _ _ c.from_residual.ensures.0 (λ _. search rules) }
+    MatchResult-from_err c.from_residual.result _ _ c.from_residual.ensures.0 (λ _. search rules)
 
-pub take-requires : goal.take-requires
-take-requires g c =
+pub take-requires-clause-within : goal.take-requires-clause-within
+take-requires-clause-within g c =
     let k = c.requires.ready.1.0.sound.kept in
     let some : 64 < c.args.n = omega (arith, c.requires.size.0, k.least) in
     let l = at_column c.args.n _ c.args.s c.locate-at.result.stripe c.locate-at.result.column some c.requires.size.1 c.locate-at.ensures.1 c.locate-at.ensures.0 in
     let is : length c.load.new.columns ≡ length c.args.b.now.members.list = omega (arith, c.load.auto.columns, c.requires.lent) in
-    record { few = (omega (arith, is, k.proper.roster.least), omega (arith, is, k.proper.roster.most)); within = omega (arith, is, l) }
+    omega (arith, is, l)
 
 pub journal-requires : goal.journal-requires
 journal-requires g c =

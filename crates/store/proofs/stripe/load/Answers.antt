@@ -1,8 +1,6 @@
 use Rattle.std.proofs.Common.{◌≡◌, ℕ, ◌<◌, Bool, length, get_or, subst, arith}
-use Rattle.std.proofs.lemmas.Result.{MatchResult-from_err}
 use Rattle.field.specs.Stripe.{held}
-use Rattle.field.specs.Missing.{Within, Mends}
-use Rattle.field.proofs.Missings.{known_within}
+use Rattle.field.specs.Missing.{Mends}
 use Rattle.layout.proofs.Turning.{place_within}
 use Rattle.store.specs.Stripes.{disk_of, Answered}
 use Rattle.store.proofs.Laws.{went_then, went_longer}
@@ -13,24 +11,16 @@ use Rattle.store.proofs.stripe.load.Goals.{then-not-branch, else-not-branch}
 pub loop-i-init : goal.loop-i-init
 loop-i-init g c = loading_none _ _ _ _ _ _
 
-pub fetch-requires : goal.fetch-requires
-fetch-requires g c =
+pub fetch-requires-clause-place : goal.fetch-requires-clause-place
+fetch-requires-clause-place g c =
     let ds = c.args.members.now.list in
     let w = c.loop-i.invariant.went in
     let l : c.loop-i.i < length ds = omega (arith, c.requires.lent) in
     let b = place_within (length ds) c.loop-i.i c.args.row.stripe c.requires.serving.roster.least l in
-    record {
-      left = omega (arith, w.spent, c.requires.left, l);
-      place = (omega (arith, b, c.place_of.ensures), omega (arith, w.deaths.size, c.requires.size));
-      serving = serving_went w ds c.args.members.now.dead c.requires.serving;
-    }
+    (omega (arith, b, c.place_of.ensures), omega (arith, w.deaths.size, c.requires.size))
 
-pub returns-in_err-fetch : goal.returns-in_err-fetch
-returns-in_err-fetch g c =
-    record {
-      went = went_longer (omega (arith, c.requires.lent)) (went_then c.loop-i.invariant.went c.fetch.ensures.went);
-      how = MatchResult-from_err c.from_residual.result _ _ c.from_residual.ensures.0 (λ _. c.in_err-fetch.ensures.how);
-    }
+pub returns-in_err-fetch-clause-went : goal.returns-in_err-fetch-clause-went
+returns-in_err-fetch-clause-went g c = went_longer (omega (arith, c.requires.lent)) (went_then c.loop-i.invariant.went c.fetch.ensures.went)
 
 pub loop-i-preserved : goal.loop-i-preserved
 loop-i-preserved g c =
@@ -54,22 +44,10 @@ loop-i-preserved g c =
           (subst (λ (o : Bool). Answered (disk_of ds c.args.row.stripe c.loop-i.i) c.args.row.sector c.fetch.new.into o (g.D.Disks.shelf c.loop-i.d) (g.D.Disks.shelf c.fetch.new.d)) b.if-not-branch.false heard))
     ]
 
-pub mend-requires : goal.mend-requires
-mend-requires g c =
-    let k = c.requires.serving.roster in
-    let e : c.loop-i.i ≡ length c.loop-i.stripe = omega arith in
-    record {
-      few = (omega (arith, c.requires.lent, k.least), omega (arith, c.requires.lent, k.most));
-      within = subst (λ (n : ℕ). Within n c.loop-i.missing) e (known_within c.loop-i.i c.loop-i.missing _ _ c.loop-i.invariant.known);
-    }
-
-pub returns : goal.returns
-returns g c =
+pub returns-clause-how : goal.returns-clause-how
+returns-clause-how g c =
     let ds = c.args.members.now.list in
     let e : c.loop-i.i ≡ length ds = omega (arith, c.requires.lent) in
     let n : length c.loop-i.stripe ≡ length ds = omega (arith, c.requires.lent) in
     let p = loading_is e c.loop-i.invariant in
-    record {
-      went = p.went;
-      how = loaded c.requires.serving.roster p (subst (λ (m : ℕ). Mends m c.loop-i.missing (held c.loop-i.stripe) (held c.mend.new.stripe)) n c.mend.ensures.mended);
-    }
+    loaded c.requires.serving.roster p (subst (λ (m : ℕ). Mends m c.loop-i.missing (held c.loop-i.stripe) (held c.mend.new.stripe)) n c.mend.ensures.mended)

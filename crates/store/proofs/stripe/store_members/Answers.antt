@@ -1,5 +1,4 @@
 use Rattle.std.proofs.Common.{◌≡◌, ℕ, ◌+◌, ◌<◌, List, [], length, get_or, sym, subst, arith}
-use Rattle.std.proofs.lemmas.Result.{MatchResult-from_err}
 use Rattle.field.specs.Stripe.{held}
 use Rattle.field.proofs.Slices.{held_at}
 use Rattle.layout.proofs.Turning.{place_within}
@@ -7,15 +6,12 @@ use Rattle.store.specs.Durable.{Here, Went, Shows}
 use Rattle.store.specs.Stripes.{chosen}
 use Rattle.store.proofs.Laws.{went_longer}
 use Rattle.store.proofs.Loads.{serving_went}
-use Rattle.store.proofs.Stores.{count_more, count_below, storing_none, storing_skip, storing_more, storing_went, storing_is}
+use Rattle.store.proofs.Stores.{count_more, count_below, storing_none, storing_skip, storing_more, storing_went}
 use Rattle.store.proofs.stripe.store_members.Goals as goal
 use Rattle.store.proofs.stripe.store_members.Goals.{then-has+in_ok-lay, else-has}
 
 pub loop-i-init : goal.loop-i-init
 loop-i-init g c = storing_none _ _ _ _ _ _ _
-
-pub has-requires : goal.has-requires
-has-requires g c = omega (arith, c.requires.lent, c.requires.serving.roster.most)
 
 -- the words that are lent are the column
 lent_is : (ds : List ℕ) (i : ℕ) (t : List (List ℕ)) → length t ≡ length ds → i < length ds → get_or t i [] ≡ held t i
@@ -36,17 +32,14 @@ lay-requires g c =
       serving = serving_went w ds c.args.members.now.dead c.requires.serving;
     }
 
-pub returns-in_err-lay : goal.returns-in_err-lay
-returns-in_err-lay g c =
+pub returns-in_err-lay-clause-went : goal.returns-in_err-lay-clause-went
+returns-in_err-lay-clause-went g c =
     let ds = c.args.members.now.list in
     let sel = chosen c.args.which.now in
     let l : c.loop-i.i < length ds = omega (arith, c.requires.lent) in
     let most = count_below (c.loop-i.i + 1) (length ds) sel (omega arith) in
     let w = subst (λ (p : ℕ). Went 1 (Here (get_or ds p 0) c.args.row.sector (get_or c.args.stripe.now c.loop-i.i [])) (g.D.Disks.shelf c.loop-i.d) (g.D.Disks.seen c.loop-i.d) (g.D.Disks.shelf c.lay.new.d) (g.D.Disks.seen c.lay.new.d)) c.place_of.ensures c.lay.ensures.went in
-    record {
-      went = went_longer most (storing_went c.requires.serving.roster l c.loop-i.invariant _ (sym c.if-has.ensures) (lent_is ds c.loop-i.i c.args.stripe.now c.requires.lent l) w);
-      how = MatchResult-from_err c.from_residual.result _ _ c.from_residual.ensures.0 (λ _. c.in_err-lay.ensures.how);
-    }
+    went_longer most (storing_went c.requires.serving.roster l c.loop-i.invariant _ (sym c.if-has.ensures) (lent_is ds c.loop-i.i c.args.stripe.now c.requires.lent l) w)
 
 pub loop-i-preserved : goal.loop-i-preserved
 loop-i-preserved g c =
@@ -60,8 +53,3 @@ loop-i-preserved g c =
           (storing_more c.requires.serving.roster l c.loop-i.invariant _ (sym b.if-has.ensures) (lent_is ds c.loop-i.i c.args.stripe.now c.requires.lent l) w b.in_ok-lay.ensures.how.0 shows)
       | else-has b ↦ rw b.d-is (storing_skip c.requires.serving.roster l c.loop-i.invariant (sym b.if-has.ensures))
     ]
-
-pub returns : goal.returns
-returns g c =
-    let e : c.loop-i.i ≡ length c.args.members.now.list = omega (arith, c.requires.lent) in
-    let p = storing_is e c.loop-i.invariant in record { went = p.went; how = p }

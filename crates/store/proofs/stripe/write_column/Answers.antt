@@ -1,6 +1,5 @@
 use Rattle.std.proofs.Common.{◌≡◌, ℕ, List, Some, None, Option, Bor, get_or, replicate, refl, ap, ◌∙◌, subst, arith}
 use Rattle.std.specs.Option.{unwrap_or, option_map}
-use Rattle.std.proofs.lemmas.Result.{MatchResult-from_err}
 use Rattle.field.specs.Stripe.{held}
 use Rattle.store.specs.Durable.{Here, Went, Shows}
 use Rattle.store.proofs.stripe.write_column.Goals as goal
@@ -15,16 +14,10 @@ column_is : (stripe : List (List ℕ)) (i : ℕ) (o : Option (Bor (List ℕ))) (
 unfolding held
 column_is stripe i o x b e ex l = ap (λ (y : Bor (List ℕ)). y.now) e ∙ now_or o x ∙ ap (unwrap_or (option_map (λ (y : Bor (List ℕ)). y.now) o)) ex ∙ l
 
-pub write_sector-requires : goal.write_sector-requires
-write_sector-requires g c = ((c.requires.left, c.requires.employed.there, c.requires.place), c.requires.employed.used)
-
-pub returns-in_err-write_sector : goal.returns-in_err-write_sector
-returns-in_err-write_sector g c =
+pub returns-in_err-write_sector-clause-went : goal.returns-in_err-write_sector-clause-went
+returns-in_err-write_sector-clause-went g c =
     let e = column_is c.args.stripe.now c.args.i c.get.result _ c.unwrap_or-column.result c.unwrap_or-column.ensures refl (c.get.ensures.lookup.4 (omega arith) (replicate 64 0)) in
-    record {
-      went = subst (λ (v : List ℕ). Went 1 (Here c.args.at c.args.s v) (g.D.Disks.shelf c.args.d.now) (g.D.Disks.seen c.args.d.now) (g.D.Disks.shelf c.write_sector.new.d) (g.D.Disks.seen c.write_sector.new.d)) e c.write_sector.ensures.went;
-      how = MatchResult-from_err c.from_residual.result _ _ c.from_residual.ensures.0 (λ _. c.in_err-write_sector.ensures.how);
-    }
+    subst (λ (v : List ℕ). Went 1 (Here c.args.at c.args.s v) (g.D.Disks.shelf c.args.d.now) (g.D.Disks.seen c.args.d.now) (g.D.Disks.shelf c.write_sector.new.d) (g.D.Disks.seen c.write_sector.new.d)) e c.write_sector.ensures.went
 
 pub returns : goal.returns
 returns g c =

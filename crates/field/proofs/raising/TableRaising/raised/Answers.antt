@@ -45,8 +45,3 @@ loop-byte-preserved c =
     let s = c.to_be_bytes-byte-items.result in
     let d : c.from-in-loop-byte-2.result ≡ double (get_or s c.loop-byte.byte-index 0) = c.from-in-loop-byte-2.ensures ∙ c.from-in-loop-byte.ensures ∙ c.twice.ensures ∙ ap double c.from.ensures in
     next c.loop-byte.byte-index c.args.v c.loop-byte.r c.from-in-loop-byte-2.result s (omega arith) (omega arith) c.to_be_bytes-byte-items.ensures c.loop-byte.invariant d
-
-pub returns : goal.returns
-returns c =
-    let e : 64 - 8 * c.loop-byte.byte-index ≡ 0 = omega arith in
-    c.loop-byte.invariant ∙ ap double8 (ap (λ (n : ℕ). c.args.v / 2 ^ n) e ∙ div-one c.args.v)
