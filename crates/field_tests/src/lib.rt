@@ -38,17 +38,11 @@ mod tests {
         assert_eq!(rt; Element::new(2).times(Element::new(0x8e)).byte(), 1);
     }
 
-    fn fill(words: &mut [u64], word: u64) {
-        for i in 0..words.len() {
-            words[i] = word;
-        }
-    }
-
     // Something else in column i's place.
     fn spoil(stripe: &mut [u64], i: usize)
         requires { (i < 12) × (64 * i + 64 ≤ length stripe.old) }
     {
-        fill(&mut stripe[64 * i..64 * i + 64], 0xdead_beef);
+        stripe[64 * i..64 * i + 64].fill(0xdead_beef);
     }
 
     #[test]
@@ -69,24 +63,12 @@ mod tests {
     // Numbers in no order.
     fn scatter(words: &mut [u64]) {
         let mut x = 1u64;
-        for i in 0..words.len() {
+        for word in words.iter_mut() {
             x = x
                 .wrapping_mul(6364136223846793005)
                 .wrapping_add(1442695040888963407);
-            words[i] = x;
+            *word = x;
         }
-    }
-
-    fn same(s: &[u64], t: &[u64]) -> bool {
-        if s.len() != t.len() {
-            return false;
-        }
-        for i in 0..s.len() {
-            if s[i] != t[i] {
-                return false;
-            }
-        }
-        true
     }
 
     // Columns a and b of twelve are spoilt, and are had again.
@@ -96,19 +78,21 @@ mod tests {
         spoil(stripe, a);
         spoil(stripe, b);
         let _ = field::mend(stripe, 12, Missing::Two(a, b));
-        same(whole, stripe)
+        whole == &*stripe
     }
 
+    // Any two of the twelve are.
     fn all_had_again(whole: &[u64], stripe: &mut [u64]) -> bool
         requires { length stripe.old ≡ 768 }
     {
-        let mut all = true;
         for a in 0..12usize {
             for b in a + 1..12 {
-                all = all && had_again(whole, stripe, a, b);
+                if !had_again(whole, stripe, a, b) {
+                    return false;
+                }
             }
         }
-        all
+        true
     }
 
     #[test]
