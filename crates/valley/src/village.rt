@@ -10,6 +10,7 @@ use std::io;
 const PATIENCE: u64 = 20000;
 
 // What has passed in a turn: nothing, for there is no store; nothing that is told; this tag was told; the power went and came back.
+// Not an `Option` for the first: one match tells the four apart.
 #[derive(Clone, Copy, PartialEq, Eq, Debug)]
 pub enum Passed {
     NoStore,
