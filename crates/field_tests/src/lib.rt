@@ -84,14 +84,16 @@ mod tests {
         stripe == *whole
     }
 
+    // Any two of the twelve are.
     fn all_had_again(whole: &[Sector; 12]) -> bool {
-        let mut all = true;
         for a in 0..12usize {
             for b in a + 1..12 {
-                all = all && had_again(whole, a, b);
+                if !had_again(whole, a, b) {
+                    return false;
+                }
             }
         }
-        all
+        true
     }
 
     #[test]

@@ -1,20 +1,16 @@
 -- A superblock's words say what was written, and members are written and read one by one.
 -- Assumes nothing.
-use Rattle.std.proofs.Common.{◌≡◌, ℕ, suc, ◌+◌, ◌-◌, ◌<◌, ◌≤◌, true, false, cond, eqb, List, [], ◌∷◌, ◌++◌, length, get_or, take, drop, replicate, Some, None, Option, sym, refl, ap, ◌∙◌, subst, arith}
-use Rattle.std.proofs.lemmas.List.{take_at, drop_at, length-take, length-drop, length-append, drop-drop, drop-replicate}
-use Rattle.std.proofs.lemmas.Bool.{eq-eqb, ne_eqb}
+use Rattle.std.proofs.Common.{◌≡◌, ℕ, ◌+◌, ◌-◌, cond, eqb, List, [], ◌∷◌, ◌++◌, length, get_or, take, drop, replicate, Some, None, Option, sym, refl, ap, ◌∙◌, arith}
+use Rattle.std.proofs.lemmas.List.{take_at, drop_at, length-append, drop-drop, drop-replicate}
+use Rattle.std.proofs.lemmas.Bool.Decides.{nat_tests}
 use Rattle.layout.specs.declared.superblock.Rebuild.{Rebuild}
-use Rattle.layout.specs.Members.{Roster}
-use Rattle.layout.specs.Super.{Super, blank, mark, heading, words_of, super_of, rebuild_of, journal_of, rebuild_words, journal_word, Joins, Proper}
+use Rattle.layout.specs.Super.{Super, blank, mark, heading, words_of, super_of, rebuild_words, journal_word}
 
 -- ---- reading what was written
 
 journal_again : (j : Option ℕ) → cond (eqb (journal_word j) 0) None (Some (journal_word j - 1)) ≡ j
 journal_again None = refl
-journal_again (Some r) =
-    let e : eqb (r + 1) 0 ≡ false = ne_eqb (r + 1) 0 (λ q. omega arith) in
-    let m : r + 1 - 1 ≡ r = omega arith in
-    rw (e, m)
+journal_again (Some r) = grind (arith, nat_tests)
 
 again_parts : (g : ℕ) (ms : List ℕ) (r : Option Rebuild) (j : Option ℕ) →
     super_of (words_of (record { generation = g; members = ms; rebuild = r; journal = j })) ≡ record { generation = g; members = ms; rebuild = r; journal = j }
@@ -37,7 +33,7 @@ rebuild_length None = refl
 rebuild_length (Some b) = refl
 
 heading_length : (S : Super) → length (heading S) ≡ 8
-heading_length S = let e = length-append (rebuild_words S.rebuild) (journal_word S.journal ∷ []) in let f = rebuild_length S.rebuild in ap (λ (n : ℕ). suc (suc (suc n))) (e ∙ ap (λ (n : ℕ). n + 1) f)
+heading_length S = omega (arith, length-append (rebuild_words S.rebuild) (journal_word S.journal ∷ []), rebuild_length S.rebuild)
 
 -- the heading in a sector of noughts, and then the members
 pub encoded : (S : Super) (w : List ℕ) → w ≡ heading S ++ replicate 56 0 → take 8 w ++ (S.members ++ drop (8 + length S.members) w) ≡ words_of S
@@ -46,26 +42,10 @@ encoded S w e =
     (ap (λ (v : List ℕ). v ++ (S.members ++ drop (8 + length S.members) (heading S ++ replicate 56 0))) (take_at (heading S) (replicate 56 0) 8 (heading_length S)) ∙
     ap (λ (v : List ℕ). heading S ++ (S.members ++ v)) (padded (length S.members) (heading S) (heading_length S)))
 
--- ---- what words say, by their mark
-
-pub marked_says : (w : List ℕ) → get_or w 0 0 ≡ mark → super_of w ≡ record { generation = get_or w 1 0; members = take (get_or w 2 0) (drop 8 w); rebuild = rebuild_of w; journal = journal_of w }
-unfolding super_of
-marked_says w e = let t : eqb (get_or w 0 0) mark ≡ true = eq-eqb _ _ e in rw t
-
+-- a sector without the mark is a blank shelf's superblock
 pub unmarked_says : (w : List ℕ) → (get_or w 0 0 ≡ mark → ⊥) → super_of w ≡ blank
 unfolding super_of
-unmarked_says w n = let t : eqb (get_or w 0 0) mark ≡ false = ne_eqb _ _ n in rw t
-
-pub proper_marked : (w : List ℕ) → get_or w 0 0 ≡ mark → Proper (super_of w) → Proper (record { generation = get_or w 1 0; members = take (get_or w 2 0) (drop 8 w); rebuild = rebuild_of w; journal = journal_of w })
-proper_marked w e p = subst (λ (S : Super). Proper S) (marked_says w e) p
-
--- members that are few were said to be few
-pub few_said : (n : ℕ) (w : List ℕ) → length w ≡ 64 → Roster (take n (drop 8 w)) → n ≤ 12
-few_said n w e r = let m = r.most in let l = length-take n (drop 8 w) in let k = length-drop 8 w in omega arith
-
--- the disk that is being filled is one of the sixteen
-pub small_said : (w ds : List ℕ) → Joins (rebuild_of w) ds → (get_or w 3 0 ≡ 0 → ⊥) → get_or w 5 0 < 16
-small_said w ds j n = let t : eqb (get_or w 3 0) 0 ≡ false = ne_eqb _ _ n in let k = rw t at j in k.2
+unmarked_says w n = grind (arith, nat_tests)
 
 -- superblocks that say the same in each part
 pub parts_same : (g : ℕ) (ms ns : List ℕ) (q r : Option Rebuild) (i j : Option ℕ) → ms ≡ ns → q ≡ r → i ≡ j →

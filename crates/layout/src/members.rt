@@ -67,7 +67,8 @@ pub struct Members {
 }
 
 impl Model for Members {
-    ghost use Rattle.std.specs.Prelude.{◌-◌, ◌++◌, length, replicate, take};
+    ghost use Rattle.std.specs.Prelude.{ℕ, List, ◌-◌, ◌++◌, length, replicate, take};
+    ghost use Rattle.std.proofs.Common.{ap, ◌∙◌};
     ghost use Rattle.layout.specs.Members.{Membership, Packed, unpacked};
 
     ghost Value = { Membership };
@@ -78,7 +79,7 @@ impl Model for Members {
 
     ghost inverse = { λ v. record { disks = v.list ++ replicate (12 - length v.list) 0; count = length v.list; dead = v.dead } };
 
-    ghost inverse_ok = { λ m h. rw (unpacked m.count m.disks h, h.many) };
+    ghost inverse_ok = { λ m h. ap (λ (ds : List ℕ). record { disks = ds; count = length (take m.count m.disks); dead = m.dead }) (unpacked m.count m.disks h) ∙ ap (λ (n : ℕ). record { disks = m.disks; count = n; dead = m.dead }) h.many };
 }
 
 // Each word as a disk's number; behind the last word all stays. By place: what a zip with `iter_mut` wrote is not known after it.

@@ -10,6 +10,7 @@ pub struct Location {
 }
 
 // The place of the member that has column i of stripe r.
+#[tactic(auto, unfolding(crate::specs::Places::place))]
 pub fn place_of(i: usize, r: u64) -> usize
     ensures { result ≡ place i r }
 {
@@ -17,6 +18,7 @@ pub fn place_of(i: usize, r: u64) -> usize
 }
 
 // The column that the member at place p has of stripe r.
+#[tactic(auto, unfolding(crate::specs::Places::index))]
 pub fn index_of(p: usize, r: u64) -> usize
     ensures { result ≡ index p r }
 {
@@ -28,6 +30,7 @@ pub fn index_of(p: usize, r: u64) -> usize
 }
 
 // Where sector s of the store is, if there are so many stripes.
+#[tactic(auto, unfolding(crate::specs::Places::column_of, crate::specs::Places::stripe_of))]
 pub fn locate(s: u64, stripes: u64) -> Location
     requires { 0 < stripes }
     ensures { (result.column ≡ column_of stripes s) × (result.stripe ≡ stripe_of stripes s) }

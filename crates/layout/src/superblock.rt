@@ -1,4 +1,5 @@
-// The superblock as a value, and as the 64 words of a sector. It touches only the words that are lent.
+// The superblock as a value, and as the 64 words of a sector. It touches only the words that are lent: slices and not arrays of 64,
+// for the disks, whose texts are fixed, are asked with slices.
 ghost use Rattle.std.specs.Prelude.{◌≡◌, ℕ, ◌+◌, ◌<◌, ◌≤◌, List, [], ◌∷◌, ◌++◌, length, take, drop, replicate, ◌≢◌, slice_index};
 ghost use Rattle.layout.specs.Members.{Roster};
 ghost use Rattle.layout.specs.Super.{Super, blank, says, super_of, rebuild_of, journal_of, heading, words_of, rebuild_words, journal_word, Numbered, Proper, ReadAgain};
@@ -34,13 +35,14 @@ pub fn read_again() -> u8
 }
 
 // Which generation a sector says, whatever it holds.
+#[tactic(auto, unfolding(crate::specs::Super::super_of))]
 pub fn generation_of(words: &[u64; 64]) -> u64
     ensures { result ≡ (super_of words.now).generation }
 {
     if words[0] == MARK { words[1] } else { 0 }
 }
 
-// The members at word 8 and on; all other words stay.
+// The members at word 8 and on; all other words stay. By place: what a zip with `iter_mut` wrote is not known after it.
 fn write_members(members: &Members, words: &mut [u64; 64])
     ensures { words.new ≡ take 8 words.old ++ (members.now.list ++ drop (8 + length members.now.list) words.old) }
 {
@@ -49,7 +51,7 @@ fn write_members(members: &Members, words: &mut [u64; 64])
     }
 }
 
-// Whether a disk is being filled, for which place, which disk, and how far.
+// Whether a disk is being filled (1 or 0, for so it lies on the disks), for which place, which disk, and how far.
 fn rebuild_words(rebuild: Option<Rebuild>) -> [u64; 4]
     ensures { result ≡ rebuild_words rebuild }
 {
@@ -59,7 +61,7 @@ fn rebuild_words(rebuild: Option<Rebuild>) -> [u64; 4]
     }
 }
 
-// One more than the stripe in the journal, or nought.
+// One more than the stripe in the journal, or nought, for so it lies on the disks.
 fn journal_word(journal: Option<u64>) -> u64
     requires { Numbered journal }
     ensures { result ≡ journal_word journal }
@@ -110,6 +112,7 @@ impl Superblock {
     }
 
     // What the words of a sector say, if they are a superblock's of the store, or noughts.
+    #[tactic(auto, unfolding(crate::specs::Super::super_of))]
     pub fn decode(words: &[u64; 64]) -> Superblock
         requires { Proper (super_of words.now) }
         ensures { (says result ≡ super_of words.now) × (result.members.dead ≡ Nobody) }

@@ -1,8 +1,9 @@
 -- The laws of words.
-use Rattle.std.proofs.Common.{◌≡◌, ℕ, zero, suc, ◌+◌, ◌<◌, ◌≤◌, true, false, eqb, List, [], ◌∷◌, ◌++◌, length, get_or, take, drop, sym, refl, ap, ◌∙◌, append-nil, arith}
-use Rattle.std.proofs.lemmas.List.{at_drop_more, drop_more, get_or-take, length-take, length-take-le, take-append-drop}
-use Rattle.std.proofs.lemmas.Bool.{cond_both, eq-eqb, ne_eqb, eqb-false}
-use Rattle.script.specs.Words.{pieces, words, unspaced}
+use Rattle.std.proofs.Common.{◌≡◌, ℕ, zero, suc, ◌+◌, ◌<◌, ◌≤◌, true, false, eqb, List, [], ◌∷◌, ◌++◌, length, get_or, take, drop, Option, Some, None, MatchOption, sym, refl, ap, ◌∙◌, append-nil, arith}
+use Rattle.std.proofs.lemmas.List.{at_drop_more, take_all, drop_all, get_or-take, length-take, length-take-le, take-append-drop}
+use Rattle.std.proofs.lemmas.Bool.{eq-eqb, ne_eqb}
+use Rattle.std.specs.Option.{unwrap_or}
+use Rattle.script.specs.Words.{pieces, words}
 
 -- A byte that isn't a space stands at each place of the list.
 abbrev pub Solid : List ℕ → Type 0
@@ -13,33 +14,22 @@ words_space : (b : ℕ) (bs : List ℕ) → eqb b 32 ≡ true → words (b ∷ b
 unfolding words
 words_space b bs e = rw e
 
-pub words_none : words [] ≡ []
+words_none : words [] ≡ []
 unfolding words
 words_none = refl
 
 -- The spaces in front don't matter.
-pub words_unspaced : (l : List ℕ) → words (unspaced l) ≡ words l
-words_unspaced [] = refl
-words_unspaced (b ∷ bs) =
-    cond_both (eqb b 32) (unspaced bs) (b ∷ bs) (λ x. words x ≡ words (b ∷ bs))
-    (λ e. words_unspaced bs ∙ sym (words_space b bs e)) (λ e. refl)
+pub words_past : (l : List ℕ) (i : ℕ) → i ≤ length l → ((k : ℕ) → k < i → get_or l k 0 ≡ 32) → words l ≡ words (drop i l)
+words_past l zero h s = refl
+words_past [] (suc i) h s = absurd (omega arith)
+words_past (b ∷ bs) (suc i) h s =
+    words_space b bs (eq-eqb b 32 (s 0 (omega arith))) ∙ words_past bs i (omega arith) (λ k lt. s (suc k) (omega arith))
 
--- Spaces are passed one by one, up to the first byte that isn't one.
-pub unspaced_more : (l : List ℕ) (i : ℕ) → i < length l → get_or l i 0 ≡ 32 → unspaced (drop i l) ≡ unspaced (drop (i + 1) l)
-unspaced_more l i h e = at_drop_more unspaced l i 0 h ∙ rw (eq-eqb (get_or l i 0) 32 e)
+-- Spaces alone are no word.
+pub words_spaces : (l : List ℕ) → ((k : ℕ) → k < length l → get_or l k 0 ≡ 32) → words l ≡ []
+words_spaces l s = words_past l (length l) (omega arith) s ∙ (ap words (drop_all (length l) l (omega arith)) ∙ words_none)
 
-pub unspaced_stops : (l : List ℕ) (i : ℕ) → i < length l → (get_or l i 0 ≡ 32 → ⊥) → unspaced (drop i l) ≡ drop i l
-unspaced_stops l i h e = at_drop_more unspaced l i 0 h ∙ rw (ne_eqb (get_or l i 0) 32 e) (sym (drop_more l i 0 h))
-
-first_of : (b : ℕ) (bs : List ℕ) → (get_or (unspaced bs) 0 0 ≡ 32 → ⊥) → get_or (unspaced (b ∷ bs)) 0 0 ≡ 32 → ⊥
-first_of b bs ih =
-    cond_both (eqb b 32) (unspaced bs) (b ∷ bs) (λ x. get_or x 0 0 ≡ 32 → ⊥) (λ e. ih) (λ e. eqb-false b 32 e)
-
-pub unspaced_first : (l : List ℕ) → get_or (unspaced l) 0 0 ≡ 32 → ⊥
-unspaced_first [] h = omega arith
-unspaced_first (b ∷ bs) h = first_of b bs (unspaced_first bs) h
-
-pub solid_from : (l : List ℕ) → ((k : ℕ) → k < length l → get_or l k 0 ≡ 32 → ⊥) → Solid l
+solid_from : (l : List ℕ) → ((k : ℕ) → k < length l → get_or l k 0 ≡ 32 → ⊥) → Solid l
 solid_from [] h = tt
 solid_from (b ∷ bs) h = (ne_eqb b 32 (h 0 (omega arith)), solid_from bs (λ k l. h (suc k) (omega arith)))
 
@@ -64,13 +54,21 @@ module _ (l : List ℕ) (i : ℕ) (none : (k : ℕ) → k < i → get_or l k 0 �
   solid_take h = solid_from (take i l) (λ k lt. let le : k < i = omega (arith, length-take i l) in rw get_or-take (none k le))
 
   -- The word ends at a space.
-  pub words_at_space : i < length l → (get_or l 0 0 ≡ 32 → ⊥) → get_or l i 0 ≡ 32 → words l ≡ take i l ∷ words (drop i l)
+  words_at_space : i < length l → (get_or l 0 0 ≡ 32 → ⊥) → get_or l i 0 ≡ 32 → words l ≡ take i l ∷ words (drop i l)
   words_at_space h f e =
       ap words (sym (take-append-drop i l))
       ∙ words_solid (take i l) (drop i l) (pieces (drop (i + 1) l)) (rw (length-take-le i l (omega arith)) (behind l i f e)) (solid_take (omega arith))
       (at_drop_more pieces l i 0 h ∙ rw (eq-eqb (get_or l i 0) 32 e))
 
   -- The word ends where the text ends.
-  pub words_at_end : length l ≤ i → 0 < length l → words l ≡ l ∷ words []
+  words_at_end : length l ≤ i → 0 < length l → words l ≡ l ∷ words []
   words_at_end h pos =
       ap words (sym (append-nil l)) ∙ words_solid l [] [] pos (solid_from l (λ k lt. none k (omega arith))) refl
+
+-- A text that begins with no space is cut at its first space, or at its end.
+pub words_cut : (t : List ℕ) (o : Option ℕ) → (get_or t 0 0 ≡ 32 → ⊥) → 0 < length t →
+    MatchOption o ((k : ℕ) → k < length t → get_or t k 0 ≡ 32 → ⊥) (λ j. (j < length t) × (get_or t j 0 ≡ 32) × ((k : ℕ) → k < j → get_or t k 0 ≡ 32 → ⊥)) →
+    words t ≡ take (unwrap_or o (length t)) t ∷ words (drop (unwrap_or o (length t)) t)
+words_cut t None f pos m =
+    words_at_end t (length t) m (omega arith) pos ∙ rw (take_all (length t) t (omega arith), drop_all (length t) t (omega arith))
+words_cut t (Some j) f pos m = words_at_space t j m.2 m.0 f m.1

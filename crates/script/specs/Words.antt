@@ -20,8 +20,3 @@ filled ((b ∷ p) ∷ ps) = (b ∷ p) ∷ filled ps
 -- The words of a line.
 unfoldable pub words : List ℕ → List (List ℕ)
 words line = filled (pieces line)
-
--- What is left of a line without the spaces that it begins with.
-abbrev pub unspaced : List ℕ → List ℕ
-unspaced [] = []
-unspaced (b ∷ bs) = cond (b == 32) (unspaced bs) (b ∷ bs)

@@ -15,7 +15,7 @@ use split::first_word;
 use value::{byte, large, place, small};
 
 // What a line asks for. Who carries it out answers for a tag or a disk that there isn't.
-#[derive(Clone, Copy, PartialEq, Debug)]
+#[derive(Clone, Copy, PartialEq, Eq, Debug)]
 pub enum Command {
     Write { tag: u32, sector: u64, byte: u8 },
     Read { tag: u32, sector: u64 },
@@ -34,21 +34,13 @@ pub enum Command {
 // The longest line that can be a command.
 const LONGEST: usize = 255;
 
-// Is the word spelled so?
-fn is(word: &[u8], text: &[u8]) -> bool
-    ensures { result ≡ bytes_eq word.now text.now }
-{
-    word == text
-}
-
 // `new`
 fn one_word(a: &[u8]) -> Option<Command>
     ensures { result ≡ one_word a.now }
 {
-    if is(a, b"new") {
-        Some(Command::New)
-    } else {
-        None
+    match a {
+        b"new" => Some(Command::New),
+        _ => None,
     }
 }
 
@@ -56,18 +48,15 @@ fn one_word(a: &[u8]) -> Option<Command>
 fn two_words(a: &[u8], b: &[u8]) -> Option<Command>
     ensures { result ≡ two_words a.now b.now }
 {
-    if is(a, b"turn") {
-        Some(Command::Turn { turns: large(b)? })
-    } else if is(a, b"die") {
-        Some(Command::Die { disk: small(b)? })
-    } else if is(a, b"until") {
-        Some(Command::Until { tag: small(b)? })
-    } else if is(b, b"flush") {
-        Some(Command::Flush { tag: small(a)? })
-    } else if is(b, b"size") {
-        Some(Command::Size { tag: small(a)? })
-    } else {
-        None
+    match a {
+        b"turn" => large(b).map(|turns| Command::Turn { turns }),
+        b"die" => small(b).map(|disk| Command::Die { disk }),
+        b"until" => small(b).map(|tag| Command::Until { tag }),
+        _ => match b {
+            b"flush" => small(a).map(|tag| Command::Flush { tag }),
+            b"size" => small(a).map(|tag| Command::Size { tag }),
+            _ => None,
+        },
     }
 }
 
@@ -75,28 +64,26 @@ fn two_words(a: &[u8], b: &[u8]) -> Option<Command>
 fn three_words(a: &[u8], b: &[u8], c: &[u8]) -> Option<Command>
     ensures { result ≡ three_words a.now b.now c.now }
 {
-    if is(a, b"die") {
-        Some(Command::DieAt {
+    match a {
+        b"die" => Some(Command::DieAt {
             disk: small(b)?,
             ask: place(c)?,
-        })
-    } else if is(a, b"cut") {
-        Some(Command::Cut {
+        }),
+        b"cut" => Some(Command::Cut {
             ask: place(b)?,
             seed: large(c)?,
-        })
-    } else if is(b, b"read") {
-        Some(Command::Read {
-            tag: small(a)?,
-            sector: large(c)?,
-        })
-    } else if is(b, b"add") {
-        Some(Command::Add {
-            tag: small(a)?,
-            disk: small(c)?,
-        })
-    } else {
-        None
+        }),
+        _ => match b {
+            b"read" => Some(Command::Read {
+                tag: small(a)?,
+                sector: large(c)?,
+            }),
+            b"add" => Some(Command::Add {
+                tag: small(a)?,
+                disk: small(c)?,
+            }),
+            _ => None,
+        },
     }
 }
 
@@ -104,20 +91,18 @@ fn three_words(a: &[u8], b: &[u8], c: &[u8]) -> Option<Command>
 fn four_words(a: &[u8], b: &[u8], c: &[u8], d: &[u8]) -> Option<Command>
     ensures { result ≡ four_words a.now b.now c.now d.now }
 {
-    if is(b, b"write") {
-        Some(Command::Write {
+    match b {
+        b"write" => Some(Command::Write {
             tag: small(a)?,
             sector: large(c)?,
             byte: byte(d)?,
-        })
-    } else if is(b, b"replace") {
-        Some(Command::Replace {
+        }),
+        b"replace" => Some(Command::Replace {
             tag: small(a)?,
             old: small(c)?,
             new: small(d)?,
-        })
-    } else {
-        None
+        }),
+        _ => None,
     }
 }
 

@@ -1,7 +1,8 @@
 // A word read as a number or as a byte. Only the word that is lent is read.
 ghost use Rattle.std.specs.Prelude.{◌≡◌};
-ghost use Rattle.script.specs.Numbers.{digit_of, hex_digit_of, number_of, small_of, large_of, place_of, byte_of};
+ghost use Rattle.script.specs.Numbers.{digit_of, hex_digit_of, small_of, large_of, place_of, byte_of};
 
+// The value of a decimal digit.
 fn digit(b: u8) -> Option<u8>
     ensures { result ≡ digit_of b }
 {
@@ -11,6 +12,7 @@ fn digit(b: u8) -> Option<u8>
     }
 }
 
+// The value of a hexadecimal digit.
 fn hex_digit(b: u8) -> Option<u8>
     ensures { result ≡ hex_digit_of b }
 {
@@ -20,54 +22,41 @@ fn hex_digit(b: u8) -> Option<u8>
     }
 }
 
-// A word of decimal digits as a number, if that is at most `most`.
-fn number(word: &[u8], most: u64) -> Option<u64>
-    ensures { result ≡ number_of most word.now }
+// A sector, or how many: a word of decimal digits.
+pub fn large(word: &[u8]) -> Option<u64>
+    ensures { result ≡ large_of word.now }
 {
     if word.is_empty() {
         return None;
     }
     let mut n: u64 = 0;
-    for b in word {
-        let d = digit(*b)?;
+    for &b in word {
+        let d = digit(b)?;
         n = n.checked_mul(10)?.checked_add(u64::from(d))?;
     }
-    if n <= most { Some(n) } else { None }
+    Some(n)
 }
 
 // A tag or a disk.
 pub fn small(word: &[u8]) -> Option<u32>
     ensures { result ≡ small_of word.now }
 {
-    let n = number(word, u64::from(u32::MAX))?;
-    Some(n as u32)
-}
-
-// A sector, or how many.
-pub fn large(word: &[u8]) -> Option<u64>
-    ensures { result ≡ large_of word.now }
-{
-    number(word, u64::MAX)
+    u32::try_from(large(word)?).ok()
 }
 
 // Which one it is, counted from 1.
 pub fn place(word: &[u8]) -> Option<u64>
     ensures { result ≡ place_of word.now }
 {
-    match large(word)? {
-        0 => None,
-        n => Some(n),
-    }
+    large(word).filter(|&n| n != 0)
 }
 
 // A byte of two hexadecimal digits.
 pub fn byte(word: &[u8]) -> Option<u8>
     ensures { result ≡ byte_of word.now }
 {
-    let [high, low] = word else {
+    let &[high, low] = word else {
         return None;
     };
-    let high = hex_digit(*high)?;
-    let low = hex_digit(*low)?;
-    Some(high * 16 + low)
+    Some(hex_digit(high)? * 16 + hex_digit(low)?)
 }

@@ -1,32 +1,22 @@
 -- The first 256 bytes of a line are enough to know what it says.
-use Rattle.std.proofs.Common.{◌≡◌, ℕ, zero, suc, ◌+◌, ◌<◌, ◌≤◌, List, [], ◌∷◌, ◌++◌, length, get_or, take, set, sym, refl, ap, ◌∙◌, ⊎_elim, arith}
-use Rattle.std.proofs.lemmas.List.{take_all, take-append-le, take_more, take_more_set, append_assoc, length-take, length_push}
+use Rattle.std.proofs.Common.{◌≡◌, ℕ, zero, suc, ◌-◌, ◌<◌, min, List, [], ◌∷◌, ◌++◌, length, take, sym, ap, ◌∙◌, ⊎_elim, arith}
+use Rattle.std.proofs.lemmas.List.{take_all, length-take}
 use Rattle.std.proofs.lemmas.Bool.{cases_lt, lt-leb}
 use Rattle.script.specs.Meaning.{command_of}
 
--- What was left out once makes no difference later.
-pub take_again : (n : ℕ) (xs ys : List ℕ) → take n (take n xs ++ ys) ≡ take n (xs ++ ys)
-take_again zero xs ys = refl
-take_again (suc n) [] ys = refl
-take_again (suc n) (x ∷ xs) ys = ap (λ l. x ∷ l) (take_again n xs ys)
+take_short : (n : ℕ) (l : List ℕ) → take (min n (length l)) l ≡ take n l
+take_short n l =
+    ⊎_elim
+    (λ h. let e : min n (length l) ≡ n = omega arith in ap (λ m. take m l) e)
+    (λ h. let e : min n (length l) ≡ length l = omega arith in ap (λ m. take m l) e ∙ (take_all (length l) l (omega arith) ∙ sym (take_all n l (omega arith))))
+    (cases_lt n (length l))
 
--- One byte more in a buffer xs of which n are taken: with room for it, and with none.
-pub push_room : (xs : List ℕ) (n b : ℕ) → n < length xs → length xs ≡ 256 → take (n + 1) (set xs n b) ≡ take 256 (take n xs ++ b ∷ [])
-push_room xs n b h e =
-    take_more_set xs n b h
-    ∙ sym (take_all 256 (take n xs ++ b ∷ []) (simp (length_push, length-take) (omega arith)))
-
-pub push_full : (xs : List ℕ) (n b : ℕ) → 256 ≤ n → length xs ≡ 256 → take n xs ≡ take 256 (take n xs ++ b ∷ [])
-push_full xs n b h e =
-    let l : length (take n xs) ≡ 256 = omega (arith, length-take n xs) in
-    sym (take-append-le 256 (take n xs) (b ∷ []) (omega arith) ∙ take_all 256 (take n xs) (omega arith))
-
--- A line goes on taking bytes, where k is kept of it.
-pub kept_more : (w l : List ℕ) (i : ℕ) (k : List ℕ) → i < length l → k ≡ take 256 (w ++ take i l) → take 256 (k ++ get_or l i 0 ∷ []) ≡ take 256 (w ++ take (i + 1) l)
-kept_more w l i k h e =
-    ap (λ s. take 256 (s ++ get_or l i 0 ∷ [])) e
-    ∙ (take_again 256 (w ++ take i l) (get_or l i 0 ∷ [])
-    ∙ ap (take 256) (append_assoc w (take i l) (get_or l i 0 ∷ []) ∙ ap (λ s. w ++ s) (sym (take_more l i 0 h))))
+-- Of a line of which n bytes at most are kept, those that come are kept as far as there is room.
+pub kept_more : (n : ℕ) (w l : List ℕ) → take n w ++ take (min (n - length (take n w)) (length l)) l ≡ take n (w ++ l)
+kept_more zero w l = let e : min 0 (length l) ≡ 0 = omega arith in rw e
+kept_more (suc n) [] l = let e : suc n - 0 ≡ suc n = omega arith in rw e (take_short (suc n) l)
+kept_more (suc n) (b ∷ w) l =
+    let e : suc n - suc (length (take n w)) ≡ n - length (take n w) = omega arith in ap (λ s. b ∷ s) (rw e (kept_more n w l))
 
 long : (l : List ℕ) → 255 < length l → command_of (take 256 l) ≡ command_of l
 long l h = rw (lt-leb (length l) 255 h, lt-leb (length (take 256 l)) 255 (omega (arith, length-take 256 l)))

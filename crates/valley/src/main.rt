@@ -11,14 +11,13 @@ mod village;
 ghost use Rattle.std.specs.Prelude.{◌≡◌, ℕ, ◌+◌, ◌-◌, ◌^◌, min, List, take, IfOk, OnOk};
 ghost use Rattle.script.specs.Meaning.{command_of};
 ghost use Rattle.valley.specs.Lines.{newlines, unended};
-ghost use Rattle.valley.specs.Kept.{kept};
 
-use line::Line;
+use line::{Line, keep};
 use memory::{BLANK, Memory};
 use script::{Command, parse};
 use std::io;
 use std::io::Read;
-use village::carry_out;
+use village::{answer_unknown, carry_out};
 
 // The cells of sixteen disks of 192 sectors.
 const CELLS: usize = 3072;
@@ -28,7 +27,7 @@ const LOG: usize = 460000;
 
 // What a line says, of which the first 256 bytes were kept.
 fn command(line: &Line) -> Option<Command>
-    ensures { (whole : List ℕ) → kept line.now ≡ take 256 whole → result ≡ command_of whole }
+    ensures { (whole : List ℕ) → line.now.items ≡ take 256 whole → result ≡ command_of whole }
 {
     parse(line.as_slice())
 }
@@ -37,7 +36,7 @@ fn command(line: &Line) -> Option<Command>
 fn answer(out: &impl Print, memory: &mut Memory, line: &Line, number: u64) -> io::Result<()> {
     match command(line) {
         Some(c) => carry_out(out, memory, c, number),
-        None => println!(out; "line {number}?"),
+        None => answer_unknown(out, number),
     }
 }
 
@@ -51,20 +50,18 @@ fn play_some(
     first: u64,
 ) -> io::Result<u64>
     ensures number { IfOk result (λ n. n ≡ min (first + newlines bytes.now) (2 ^ 64 - 1)) }
-    ensures after { (begun : List ℕ) → kept line.old ≡ take 256 begun → OnOk result (kept line.new ≡ take 256 (unended begun bytes.now)) }
+    ensures after { (begun : List ℕ) → line.old.items ≡ take 256 begun → OnOk result (line.new.items ≡ take 256 (unended begun bytes.now)) }
 {
     let mut number = first;
     let mut rest = bytes;
-    while !rest.is_empty() {
-        let n = line.fill(rest);
-        if n == rest.len() {
-            break;
-        }
+    while let Some(n) = rest.iter().position(|&b| b == b'\n') {
+        keep(line, &rest[..n]);
         answer(out, memory, line, number)?;
         line.clear();
         number = number.saturating_add(1);
         rest = &rest[n + 1..];
     }
+    keep(line, rest);
     Ok(number)
 }
 

@@ -10,7 +10,8 @@ use std::io;
 const PATIENCE: u64 = 20000;
 
 // What has passed in a turn: nothing, for there is no store; nothing that is told; this tag was told; the power went and came back.
-#[derive(Clone, Copy, PartialEq)]
+// Not an `Option` for the first: one match tells the four apart.
+#[derive(Clone, Copy, PartialEq, Eq, Debug)]
 pub enum Passed {
     NoStore,
     Quiet,
@@ -47,51 +48,45 @@ fn wait(out: &impl Print, memory: &mut Memory, tag: u32) -> io::Result<()> {
     for _ in 0..PATIENCE {
         match turn(out, memory)? {
             Passed::Quiet => {}
-            Passed::Told(t) => {
-                if t == tag {
-                    break;
-                }
-            }
-            Passed::NoStore | Passed::Cut => {
-                break;
-            }
+            Passed::Told(t) if t != tag => {}
+            Passed::Told(_) | Passed::NoStore | Passed::Cut => break,
         }
     }
     Ok(())
 }
 
-// Carries out the command of the line of this number.
+// Answers a line that is no command, or whose command cannot be carried out.
+pub fn answer_unknown(out: &impl Print, number: u64) -> io::Result<()> {
+    println!(out; "line {number}?")
+}
+
+// Carries out the command of the line of this number; those that are left need a store.
 pub fn carry_out(
     out: &impl Print,
     memory: &mut Memory,
     command: Command,
     number: u64,
 ) -> io::Result<()> {
-    let known = match command {
-        Command::New => {
-            memory.restart();
-            true
-        }
+    match command {
+        Command::New => memory.restart(),
         Command::Die { disk } => {
             if !memory.kill(disk) {
                 println!(out; "kept")?;
             }
-            true
         }
-        Command::DieAt { disk, ask } => memory.plan_death(disk, ask),
-        Command::Cut { ask, seed } => memory.plan_cut(ask, seed),
-        Command::Turn { turns } => {
-            pass(out, memory, turns)?;
-            true
+        Command::DieAt { disk, ask } => {
+            if !memory.plan_death(disk, ask) {
+                return answer_unknown(out, number);
+            }
         }
-        Command::Until { tag } => {
-            wait(out, memory, tag)?;
-            true
+        Command::Cut { ask, seed } => {
+            if !memory.plan_cut(ask, seed) {
+                return answer_unknown(out, number);
+            }
         }
-        _ => false,
-    };
-    if known {
-        return Ok(());
+        Command::Turn { turns } => pass(out, memory, turns)?,
+        Command::Until { tag } => wait(out, memory, tag)?,
+        _ => return answer_unknown(out, number),
     }
-    println!(out; "line {number}?")
+    Ok(())
 }

@@ -4,4 +4,4 @@ use Rattle.valley.proofs.Room.{command_kept}
 use Rattle.valley.proofs.command.Goals as goal
 
 pub returns : goal.returns
-returns c whole h = c.parse.ensures ∙ (ap command_of (c.as_slice.ensures ∙ h) ∙ command_kept whole)
+returns c whole h = c.parse.ensures ∙ (ap command_of (c.as_slice.ensures.value ∙ h) ∙ command_kept whole)

@@ -5,4 +5,5 @@ use Rattle.layout.proofs.members.Members.append.Goals as goal
 
 pub invariant_of-self : goal.invariant_of-self
 invariant_of-self c =
-    packed_more _ _ c.self.invariant c.args.d c.requires.new.0 (rw (ap (λ (v : Membership). v.list) c.self.view_is) c.requires.new.1) (omega arith) (omega (arith, ap (λ (v : Membership). length v.list) c.self.view_is, c.self.invariant.many))
+    packed_more _ _ c.self.invariant (omega arith) (omega (arith, ap (λ (v : Membership). length v.list) c.self.view_is, c.self.invariant.many))
+    c.args.d c.requires.new.0 (rw (ap (λ (v : Membership). v.list) c.self.view_is) c.requires.new.1)
