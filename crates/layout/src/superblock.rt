@@ -1,5 +1,4 @@
-// The superblock as a value, and as the 64 words of a sector. It touches only the words that are lent: slices and not arrays of 64,
-// for the disks, whose texts are fixed, are asked with slices.
+// The superblock as a value, and as the 64 words of a sector. It touches only the words that are lent.
 ghost use Rattle.std.specs.Prelude.{◌≡◌, ℕ, ◌+◌, ◌<◌, ◌≤◌, List, [], ◌∷◌, ◌++◌, length, take, drop, replicate, ◌≢◌, slice_index};
 ghost use Rattle.layout.specs.Members.{Roster};
 ghost use Rattle.layout.specs.Super.{Super, blank, says, super_of, rebuild_of, journal_of, heading, words_of, rebuild_words, journal_word, Numbered, Proper, ReadAgain};
