@@ -8,6 +8,7 @@ use Rattle.store.specs.declared.Ask.{Ask}
 use Rattle.store.specs.declared.Ask.TheVariants.{Read, Write, Flush, Size, Add, Replace}
 use Rattle.store.specs.declared.Reply.{Reply}
 use Rattle.store.specs.declared.Reply.TheVariants.{Done, Bytes, Many, No}
+use Rattle.memory.specs.declared.diary.Diary.{Diary}
 use Rattle.memory.specs.declared.diary.What.{What}
 use Rattle.memory.specs.declared.diary.What.TheVariants.{Asked, Refused, Told}
 
@@ -73,9 +74,13 @@ unfoldable pub latest : List ℕ → ℕ → List ℕ
 latest log zero = []
 latest log (suc k) = slice_index log k ∷ latest log k
 
--- what was seen, when n words are noted
-abbrev pub seen_of : List ℕ → ℕ → List Event
-seen_of log n = events_of Head (latest log n)
+-- the words that are noted, the latest first
+abbrev pub noted_in : Diary → List ℕ
+noted_in d = latest d.words.now d.noted
+
+-- what was seen
+abbrev pub seen_of : Diary → List Event
+seen_of d = events_of Head (noted_in d)
 
 -- something was asked, refused or told
 abbrev pub event_of : What → ℕ → Ask → List ℕ → Event

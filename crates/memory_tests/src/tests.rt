@@ -31,7 +31,7 @@ fn a_cut_leaves_what_was_drawn(rt: HostRuntime) {
     let mut m = Memory::new(&mut cells, &mut log, &[]);
     written_twice(&mut m);
     assert_eq!(rt; word_at(&mut m, 2), Some(103));
-    assert!(rt; m.plan_cut(2, 1234));
+    assert!(rt; m.plan_cut(2, 1234).is_ok());
     assert_eq!(rt; word_at(&mut m, 0), Some(101));
     assert_eq!(rt; word_at(&mut m, 0), None);
     let old = [true, true, false, false, false, true, true, false];
@@ -48,7 +48,7 @@ fn a_sync_makes_it_last(rt: HostRuntime) {
     let mut m = Memory::new(&mut cells, &mut log, &[]);
     written_twice(&mut m);
     let _ = settle(&mut m);
-    assert!(rt; m.plan_cut(1, 1234));
+    assert!(rt; m.plan_cut(1, 1234).is_ok());
     assert_eq!(rt; word_at(&mut m, 0), None);
     for s in 0..8 {
         assert_eq!(rt; word_at(&mut m, s), Some(s + 101));
@@ -64,7 +64,7 @@ fn a_write_lasts_at_once(rt: HostRuntime) {
     let _ = put(&mut m, 0, 0, 1);
     let _ = settle(&mut m);
     let _ = put(&mut m, 0, 0, 2);
-    assert!(rt; m.plan_cut(4, 1234));
+    assert!(rt; m.plan_cut(4, 1234).is_ok());
     let _ = put(&mut m, 0, 0, 3);
     assert_eq!(rt; word_at(&mut m, 0), Some(3));
     assert_eq!(rt; word_at(&mut m, 0), Some(3));
@@ -77,13 +77,13 @@ fn no_third_dies(rt: HostRuntime) {
     let mut cells = [BLANK; 2048];
     let mut log = [0; 4096];
     let mut m = Memory::new(&mut cells, &mut log, &[]);
-    assert!(rt; m.kill(0));
-    assert!(rt; !m.kill(0));
-    assert!(rt; m.kill(3));
-    assert!(rt; !m.kill(1));
-    assert!(rt; m.kill(4) && m.kill(15) && !m.kill(16));
+    assert!(rt; m.kill(0).is_ok());
+    assert!(rt; m.kill(0).is_err());
+    assert!(rt; m.kill(3).is_ok());
+    assert!(rt; m.kill(1).is_err());
+    assert!(rt; m.kill(4).is_ok() && m.kill(15).is_ok() && m.kill(16).is_err());
     m.restart();
-    assert!(rt; m.kill(1));
+    assert!(rt; m.kill(1).is_ok());
 }
 
 #[test]
@@ -91,7 +91,7 @@ fn a_planned_death_comes(rt: HostRuntime) {
     let mut cells = [BLANK; 2048];
     let mut log = [0; 4096];
     let mut m = Memory::new(&mut cells, &mut log, &[]);
-    assert!(rt; m.plan_death(0, 2) && m.plan_death(0, 3));
+    assert!(rt; m.plan_death(0, 2).is_ok() && m.plan_death(0, 3).is_ok());
     assert_eq!(rt; word_at(&mut m, 5), Some(0));
     assert_eq!(rt; word_at(&mut m, 5), None);
     assert_eq!(rt; m.spared(), 0);

@@ -73,13 +73,13 @@ pub fn carry_out(
             true
         }
         Command::Die { disk } => {
-            if !memory.kill(disk) {
+            if memory.kill(disk).is_err() {
                 println!(out; "kept")?;
             }
             true
         }
-        Command::DieAt { disk, ask } => memory.plan_death(disk, ask),
-        Command::Cut { ask, seed } => memory.plan_cut(ask, seed),
+        Command::DieAt { disk, ask } => memory.plan_death(disk, ask).is_ok(),
+        Command::Cut { ask, seed } => memory.plan_cut(ask, seed).is_ok(),
         Command::Turn { turns } => {
             pass(out, memory, turns)?;
             true
