@@ -219,19 +219,3 @@ chosen_old u w i seed k hi hk p q r c = (
     go j (inr e) =
         ap (λ (x : Cell). x.shown) (get_or-set_other w.cells.now k j v empty e)
         ∙ ((c.1 j).shown ∙ sym (left_next u i seed j (λ _ l _. absurd (e (sym l ∙ (sym (c.1 i).listed ∙ p))))))
-
-pub chosen_none : (u : Platter) (seed : ℕ) → Chosen u 0 seed u
-chosen_none u seed = (refl, λ j. record { slot = refl; listed = refl; lasting = refl; shown = sym (cond-false _ _ _ (and_left _ _ (nothing_waits (listing 0 u) j refl))) })
-
--- those that are listed past the last cell don't count
-pub chosen_all : (u w : Platter) (i seed : ℕ) → ((i ≡ u.written) ⊎ ((length u.cells.now ≤ i) × (i ≤ u.written))) → Chosen u i seed w → (k : ℕ) → (cell_at w k).shown ≡ left_of u seed k
-chosen_all u w i seed (inl e) c k = (c.1 k).shown ∙ ap (λ m. left_of (listing m u) seed k) e
-chosen_all u w i seed (inr e) c k =
-    (c.1 k).shown ∙ ap (λ b. cond ((b && eqb (cell_at u (cell_at u k).slot).listed k) && leb (2 ^ 63) (drawn seed k)) (cell_at u k).lasting (cell_at u k).shown) (go (cases_lt (cell_at u k).slot (length u.cells.now)))
-  where
-    x : ℕ
-    x = (cell_at u k).slot
-
-    go : (x < length u.cells.now) ⊎ (length u.cells.now ≤ x) → (ltb x i && ltb x (length u.cells.now)) ≡ (ltb x u.written && ltb x (length u.cells.now))
-    go (inl l) = ap (λ b. b && ltb x (length u.cells.now)) (lt-ltb x i (omega arith) ∙ sym (lt-ltb x u.written (omega arith)))
-    go (inr l) = and_right _ _ (le-ltb x (length u.cells.now) l) ∙ sym (and_right _ _ (le-ltb x (length u.cells.now) l))

@@ -192,7 +192,6 @@ impl Plan {
     pub fn strike(&mut self, state: &mut State, diary: &mut Diary)
         ensures died { (p : Platter) → Perish (shelf_with p diary.old state.old) (seen_of diary.old) (shelf_with p diary.new state.new) (seen_of diary.new) }
         ensures timely { (NoneDies self.new) × (self.new.asks ≡ self.old.asks) }
-        ensures seed { self.new.seed ≡ self.old.seed }
     {
         let asks = self.asks;
         let mut kept = 0;
