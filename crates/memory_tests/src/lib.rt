@@ -17,14 +17,11 @@ pub fn look(m: &mut Memory, d: u32, s: u64, into: &mut [u64], room: &mut [u64]) 
         return Answer::Dead;
     }
     m.allow(1);
-    match m.read(d, s, into) {
-        Answer::Fine => Answer::Fine,
-        Answer::Dead => Answer::Dead,
-        Answer::Dark => {
-            m.back(room);
-            Answer::Dark
-        }
+    let answer = m.read(d, s, into);
+    if let Answer::Dark = answer {
+        m.back(room);
     }
+    answer
 }
 
 // Writes a sector of a disk in use: each of its words becomes this one.

@@ -1,6 +1,6 @@
 use Rattle.std.proofs.Common.{refl, arith}
 use Rattle.memory.specs.Held.{shelf_of}
-use Rattle.memory_tests.proofs.Gone.{may_write}
+use Rattle.memory_tests.proofs.Leave.{may_write}
 use Rattle.memory_tests.proofs.put.Goals as goal
 
 pub write-requires : goal.write-requires
