@@ -6,7 +6,7 @@
 ghost use Rattle.std.specs.Prelude.{◌≡◌, ℕ, ◌+◌, ◌-◌, ◌/◌, ◌%◌, ◌^◌, ◌<◌, ◌≤◌, List, [], ◌∷◌, length, replicate, OnOk, OnErr, IfSome};
 ghost use Rattle.store.specs.Event.{Event, Turned, Died, Cut};
 ghost use Rattle.memory.specs.Held.{full};
-ghost use Rattle.memory.specs.Words.{ask_of, reply_of, events_of, noted_in, seen_of, event_of, words as await, Head};
+ghost use Rattle.memory.specs.Words.{ask_of, reply_of, events_of, noted_in, seen_of, event_of, words as await, Head, Grown};
 
 use crate::refusals::LogFull;
 use store::{Ask, Reply};
@@ -128,7 +128,7 @@ impl Diary<'_> {
         requires { self.old.noted < length self.old.words.now }
         ensures words { noted_in self.new ≡ word ∷ noted_in self.old }
         ensures many { self.new.noted ≡ self.old.noted + 1 }
-        ensures long { length self.new.words.now ≡ length self.old.words.now }
+        ensures grown { Grown self.old 1 self.new }
     {
         self.words[self.noted] = word;
         self.noted += 1;
@@ -139,8 +139,7 @@ impl Diary<'_> {
         requires { (self.old.noted + 64 ≤ length self.old.words.now) × (length words.now ≡ 64) }
         ensures read { (f : List ℕ → Event) → events_of (await result f) (noted_in self.new) ≡ f words.now ∷ seen_of self.old }
         ensures small { result < 2 }
-        ensures most { self.new.noted ≤ self.old.noted + 64 }
-        ensures long { length self.new.words.now ≡ length self.old.words.now }
+        ensures grown { Grown self.old 64 self.new }
     {
         match uniform(words) {
             Some(word) => {
@@ -159,8 +158,7 @@ impl Diary<'_> {
     fn push_head(&mut self, what: What, tag: u32, body: u64)
         requires { (self.old.noted + 2 ≤ length self.old.words.now) × (body < 16) }
         ensures read { (x : ℕ) (l : List ℕ) → noted_in self.old ≡ x ∷ l → seen_of self.new ≡ events_of (await (body / 8) (event_of what tag (ask_of (body % 8) x))) l }
-        ensures most { self.new.noted ≤ self.old.noted + 2 }
-        ensures long { length self.new.words.now ≡ length self.old.words.now }
+        ensures grown { Grown self.old 2 self.new }
     {
         let tag = tag as u64;
         match what {
@@ -181,8 +179,7 @@ impl Diary<'_> {
     fn push_event(&mut self, what: What, tag: u32, a: Ask, words: &[u64])
         requires { (self.old.noted + 68 ≤ length self.old.words.now) × (length words.now ≡ 64) }
         ensures seen { seen_of self.new ≡ event_of what tag a words.now ∷ seen_of self.old }
-        ensures most { self.new.noted ≤ self.old.noted + 67 }
-        ensures long { length self.new.words.now ≡ length self.old.words.now }
+        ensures grown { Grown self.old 67 self.new }
     {
         let ask = Coded::from(a);
         let width = self.push_words(words);
@@ -252,7 +249,7 @@ impl Diary<'_> {
         requires { self.old.noted < length self.old.words.now }
         ensures seen { seen_of self.new ≡ Cut ∷ seen_of self.old }
         ensures many { self.new.noted ≡ self.old.noted + 1 }
-        ensures long { length self.new.words.now ≡ length self.old.words.now }
+        ensures grown { Grown self.old 1 self.new }
     {
         self.push(2);
     }
