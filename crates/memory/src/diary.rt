@@ -11,7 +11,7 @@ ghost use Rattle.memory.specs.Words.{ask_of, reply_of, events_of, noted_in, seen
 use crate::refusals::LogFull;
 use store::{Ask, Reply};
 
-// What was seen of a request: it was asked; it was refused, and why; it was told.
+// What was seen of a request: it was asked; it was refused, and why; it was told. `Reply` of the store can only be copied, so this can too.
 #[derive(Clone, Copy)]
 pub enum What {
     Asked,

@@ -171,7 +171,8 @@ impl Plan {
         None
     }
 
-    // Does what was shown of a sector become lasting now that it is written over? That is for the next cut to choose.
+    // Does what was shown of a sector become lasting now that it is written over? That is for the next cut to choose. One that is planned for
+    // the last number there is never comes.
     pub fn lasts_at_once(&self) -> bool {
         self.due
             .iter()

@@ -22,6 +22,7 @@ use crate::fate::Fate;
 use store::Ask;
 
 // What a step of the script does: nothing is asked for so long; something is asked, with words that are all one; something is planned.
+// `Ask` of the store can only be copied, so this can too.
 #[derive(Clone, Copy)]
 pub enum Step {
     Rest(u64),
