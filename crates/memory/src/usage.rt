@@ -2,7 +2,7 @@
 //
 // Nothing is touched here but that part of the state: a disk that is asked for is in use from then on, and one that was told to be out
 // is no more.
-ghost use Rattle.std.specs.Prelude.{◌≡◌, ◌<◌, IfOk, OnOk, MatchOption};
+ghost use Rattle.std.specs.Prelude.{◌≡◌, ◌<◌, MatchOption, MatchResult, OnOk, OnErr};
 ghost use Rattle.store.specs.Shelf.{Shelf, takes_in, told_of, in_use, out};
 ghost use Rattle.memory.specs.Held.{shelf_with};
 ghost use Rattle.memory.specs.Uses.{into};
@@ -37,7 +37,7 @@ fn told_out(a: Ask, r: Reply) -> Option<u32>
 
 // The place of a disk among the sixteen.
 fn place(disk: u32) -> Result<usize, NoSuchDisk>
-    ensures { IfOk result (λ k. (k ≡ disk) × (k < 16)) }
+    ensures { MatchResult result (λ k. (k ≡ disk) × (k < 16)) (λ _. 15 < disk) }
 {
     if disk > 15 {
         Err(NoSuchDisk)
@@ -49,7 +49,8 @@ fn place(disk: u32) -> Result<usize, NoSuchDisk>
 impl State {
     // A disk is in use from now on.
     fn enter(&mut self, e: u32) -> Result<(), NoSuchDisk>
-        ensures { OnOk result ((p : Platter) (d : Diary) → shelf_with p d self.new ≡ into e (shelf_with p d self.old)) }
+        ensures shelf { OnOk result ((p : Platter) (d : Diary) → shelf_with p d self.new ≡ into e (shelf_with p d self.old)) }
+        ensures err { OnErr result (self.new ≡ self.old) }
     {
         self.disks[place(e)?].in_use = true;
         Ok(())
@@ -57,7 +58,8 @@ impl State {
 
     // A disk is in use no more.
     fn leave(&mut self, e: u32) -> Result<(), NoSuchDisk>
-        ensures { OnOk result ((p : Platter) (d : Diary) → shelf_with p d self.new ≡ out e (shelf_with p d self.old)) }
+        ensures shelf { OnOk result ((p : Platter) (d : Diary) → shelf_with p d self.new ≡ out e (shelf_with p d self.old)) }
+        ensures err { OnErr result (self.new ≡ self.old) }
     {
         let k = place(e)?;
         self.disks[k] = Disk {
@@ -70,7 +72,8 @@ impl State {
 
     // A disk that is asked to be taken in counts as in use.
     pub fn take_in(&mut self, a: Ask) -> Result<(), NoSuchDisk>
-        ensures { OnOk result ((p : Platter) (d : Diary) → shelf_with p d self.new ≡ takes_in a (shelf_with p d self.old)) }
+        ensures shelf { OnOk result ((p : Platter) (d : Diary) → shelf_with p d self.new ≡ takes_in a (shelf_with p d self.old)) }
+        ensures err { OnErr result (self.new ≡ self.old) }
     {
         match asked_in(a) {
             Some(e) => self.enter(e),
@@ -80,7 +83,8 @@ impl State {
 
     // What was told may take a disk out of use.
     pub fn let_out(&mut self, a: Ask, r: Reply) -> Result<(), NoSuchDisk>
-        ensures { OnOk result ((p : Platter) (d : Diary) → shelf_with p d self.new ≡ told_of a r (shelf_with p d self.old)) }
+        ensures shelf { OnOk result ((p : Platter) (d : Diary) → shelf_with p d self.new ≡ told_of a r (shelf_with p d self.old)) }
+        ensures err { OnErr result (self.new ≡ self.old) }
     {
         match told_out(a, r) {
             Some(e) => self.leave(e),

@@ -4,5 +4,5 @@ use Rattle.memory.specs.Uses.{into}
 use Rattle.memory.proofs.Laws.{enters}
 use Rattle.memory.proofs.State.enter.Goals as goal
 
-pub returns : goal.returns
-returns c = λ p d. enters p d c.args.self.now c.in_ok-self.field-0 (omega (arith, c.in_ok-self.ensures.1)) ∙ ap (λ e. into e (shelf_with p d c.args.self.now)) c.in_ok-self.ensures.0
+pub returns-clause-shelf : goal.returns-clause-shelf
+returns-clause-shelf c = λ p d. enters p d c.args.self.now c.in_ok-self.field-0 (omega (arith, c.in_ok-self.ensures.1)) ∙ ap (λ e. into e (shelf_with p d c.args.self.now)) c.in_ok-self.ensures.0
