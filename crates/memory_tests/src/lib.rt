@@ -10,9 +10,7 @@ use memory::{Cell, Memory};
 use store::{Answer, Disks, World};
 
 // Reads a sector, as anyone may who has leave to ask once. The power comes back where it has gone.
-pub fn look(m: &mut Memory, d: u32, s: u64, into: &mut [u64], room: &mut [u64]) -> Answer
-    requires { length into.old ≡ 64 }
-{
+pub fn look(m: &mut Memory, d: u32, s: u64, into: &mut [u64; 64], room: &mut [u64]) -> Answer {
     if d > 15 || s >= m.sectors() {
         return Answer::Dead;
     }

@@ -1,5 +1,5 @@
 // Plays the store on disks in memory: the power goes at every single ask in turn, again while it comes up, and disks die before,
-// during and after. All that is told is held against a plain model.
+// during and after. All that is told is held against a plain model. This is no part of the store, so what was seen is read into a `Vec`.
 #![tactic(auto)]
 
 mod model;

@@ -32,11 +32,11 @@ impl Values {
     }
 
     fn contains(self, v: u64) -> bool {
-        v < 32 && self.0 & 1 << (v % 32) != 0
+        v < 32 && self.0 & Values::only(v).0 != 0
     }
 
     fn insert(&mut self, v: u64) {
-        self.0 |= 1 << (v % 32);
+        self.0 |= Values::only(v).0;
     }
 }
 
@@ -53,8 +53,8 @@ impl Model {
     fn cut(&mut self) {
         for writing in self.writing.iter_mut() {
             if let Some(Writing { sector, value }) = writing.take() {
-                if sector < 8 {
-                    self.may[sector].insert(value);
+                if let Some(may) = self.may.get_mut(sector) {
+                    may.insert(value);
                 }
             }
         }
