@@ -21,5 +21,5 @@ pub extern "C" fn store_years<'a>(
     ensures refused { result ≡ false → Fitting (length cells.old) (length room.old) (length words.old) lives turns → ⊥ }
     ensures untouched { result ≡ false → (cells.new ≡ cells.old) × (log.new ≡ log.old) × (room.new ≡ room.old) × (words.new ≡ words.old) }
 {
-    export::store_years(cells, log, script, room, words, lives, turns)
+    export::try_years(cells, log, script, room, words, lives, turns).is_ok()
 }

@@ -1,10 +1,11 @@
 -- The words of the log, and the events that they are.
-use Rattle.std.proofs.Common.{◌≡◌, ℕ, zero, suc, ◌+◌, ◌-◌, ◌*◌, ◌/◌, ◌%◌, ◌<◌, ◌≤◌, ◌≢◌, List, [], ◌∷◌, ◌++◌, length, get_or, take, set, replicate, sym, refl, ap, ◌∙◌, add-zero, add-suc, add-one, arith, get_or-set_other, get_or-set_same}
-use Rattle.std.proofs.lemmas.List.{append_assoc, append-nil, take_more, take_all}
+use Rattle.std.proofs.Common.{◌≡◌, ℕ, zero, suc, ◌+◌, ◌-◌, ◌*◌, ◌/◌, ◌%◌, ◌<◌, ◌≤◌, ◌≢◌, List, [], ◌∷◌, ◌++◌, length, get_or, take, set, replicate, length-take, Result, OnOk, sym, refl, ap, ◌∙◌, subst, add-zero, add-suc, add-one, arith, get_or-set_other, get_or-set_same}
+use Rattle.std.proofs.Math.ListN.{get_or-append}
+use Rattle.std.proofs.lemmas.List.{append_assoc, append-nil, take_more, take_all, get_or-take, get_or-append_right}
 use Rattle.store.specs.Event.{Event}
 use Rattle.store.specs.declared.Ask.{Ask}
 use Rattle.store.specs.declared.Reply.{Reply}
-use Rattle.memory.specs.Words.{ask_of, reply_of, Head, Same, Each, words, awaits, turns_on, fronts, events_of, latest, seen_of, event_of}
+use Rattle.memory.specs.Words.{ask_of, reply_of, Head, Same, Each, words, awaits, turns_on, fronts, events_of, latest, event_of}
 use Rattle.memory.specs.declared.diary.What.{What}
 use Rattle.memory.specs.declared.diary.What.TheVariants.{Asked, Refused, Told}
 
@@ -52,15 +53,25 @@ each_reads log n (suc m) b f =
     ∙ (each_reads log n m (get_or log (n + suc m) 0 ∷ b) f
     ∙ ap (λ l. f l ∷ events_of Head (latest log n)) (sym (append_assoc (run log n (suc m)) (get_or log (n + suc m) 0 ∷ []) b)))
 
+-- words that are put behind the first n: they stand there, and those before them are as they were
+put_there : (log old ws : List ℕ) (n : ℕ) → length ws ≡ 64 → n ≤ length old → take (n + 64) log ≡ take n old ++ ws → (i : ℕ) → i < 64 → get_or log (n + i) 0 ≡ get_or ws i 0
+put_there log old ws n l m e i h =
+    let q : n + i - n ≡ i = omega arith in
+    sym (get_or-take (n + 64) log (n + i) 0 (omega arith))
+    ∙ (ap (λ x. get_or x (n + i) 0) e ∙ (get_or-append_right (take n old) ws n (n + i) 0 (omega (arith, length-take n old)) (omega arith) ∙ ap (λ k. get_or ws k 0) q))
+
+put_before : (log old ws : List ℕ) (n : ℕ) → length ws ≡ 64 → n ≤ length old → take (n + 64) log ≡ take n old ++ ws → (i : ℕ) → i < n → get_or log i 0 ≡ get_or old i 0
+put_before log old ws n l m e i h =
+    sym (get_or-take (n + 64) log i 0 (omega arith)) ∙ (ap (λ x. get_or x i 0) e ∙ (get_or-append (take n old) ws 0 i (omega (arith, length-take n old)) ∙ get_or-take n old i 0 h))
+
 -- the 64 words of an event, each of them
-pub wide_reads : (log old ws : List ℕ) (n w : ℕ) (f : List ℕ → Event) → (w ≡ 0 → ⊥) → length ws ≡ 64 → ((i : ℕ) → i < 64 → get_or log (n + i) 0 ≡ get_or ws i 0) → ((i : ℕ) → i < n → get_or log i 0 ≡ get_or old i 0) →
-    events_of (words w f) (latest log (n + 64)) ≡ f ws ∷ seen_of old n
+pub wide_reads : (log old ws : List ℕ) (n : ℕ) (f : List ℕ → Event) → length ws ≡ 64 → n ≤ length old → take (n + 64) log ≡ take n old ++ ws →
+    events_of (words 1 f) (latest log (n + 64)) ≡ f ws ∷ events_of Head (latest old n)
 unfolding words
-wide_reads log old ws n zero f z l h p = absurd (z refl)
-wide_reads log old ws n (suc w) f z l h p =
+wide_reads log old ws n f l m e =
     each_reads log n 63 [] f
-    ∙ (ap (λ v. f v ∷ seen_of log n) (append-nil (run log n 64) ∙ (run_take log ws n 64 (omega arith) h ∙ take_all 64 ws (omega arith)))
-    ∙ ap (λ v. f ws ∷ events_of Head v) (latest_agree log old n p))
+    ∙ (ap (λ v. f v ∷ events_of Head (latest log n)) (append-nil (run log n 64) ∙ (run_take log ws n 64 (omega arith) (put_there log old ws n l m e) ∙ take_all 64 ws (omega arith)))
+    ∙ ap (λ v. f ws ∷ events_of Head v) (latest_agree log old n (put_before log old ws n l m e)))
 
 -- all of them one
 pub same_reads : (w : ℕ) (f : List ℕ → Event) (l ws b : List ℕ) (v : ℕ) → w ≡ 0 → l ≡ v ∷ ws → b ≡ replicate 64 v → events_of (words w f) l ≡ f b ∷ events_of Head ws
@@ -153,14 +164,18 @@ body_reads what tag x kind width a l few means =
     ∙ (ap (λ i. events_of (words width (event_of what tag (ask_of i x))) l) q ∙ ap (λ b. events_of (words width (event_of what tag b)) l) means)
 
 -- one more of the turns in a row
-pub one_turn_more : (log : List ℕ) (k h : ℕ) → 0 < k → k ≤ length log → get_or log (k - 1) 0 ≡ h → h % 8 ≡ 0 → seen_of (set log (k - 1) (h + 8)) k ≡ Event.Turned ∷ seen_of log k
+pub one_turn_more : (log : List ℕ) (k h : ℕ) → 0 < k → k ≤ length log → get_or log (k - 1) 0 ≡ h → h % 8 ≡ 0 → events_of Head (latest (set log (k - 1) (h + 8)) k) ≡ Event.Turned ∷ events_of Head (latest log k)
 unfolding latest turns_on
 one_turn_more log zero h p l e z = absurd (omega arith)
 one_turn_more log (suc j) h p l e z =
     let q : suc j - 1 ≡ j = omega arith in
     let m : j < length log = omega arith in
     let g : get_or log j 0 ≡ h = ap (λ i. get_or log i 0) (sym q) ∙ e in
-    ap (λ i. seen_of (set log i (h + 8)) (suc j)) q
+    ap (λ i. events_of Head (latest (set log i (h + 8)) (suc j))) q
     ∙ (ap (events_of Head) (latest_suc log j (h + 8) m)
     ∙ (turns_head (h + 8) (suc (h / 8)) (omega arith) (omega arith) (latest log j)
     ∙ ap (λ es. Event.Turned ∷ es) (sym (ap (λ v. events_of Head (v ∷ latest log j)) g ∙ turns_head h (h / 8) z refl (latest log j)))))
+
+-- what was noted is also this
+pub on_ok_as : {E : Type 0} (r : Result (Unit {0}) E) (a b d : List Event) → b ≡ d → OnOk r (a ≡ b) → OnOk r (a ≡ d)
+on_ok_as r a b d e h = subst (λ x. OnOk r (a ≡ x)) e h

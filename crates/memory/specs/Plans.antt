@@ -1,40 +1,41 @@
 -- What is planned: deaths and cuts, by the number of the thing asked that they come with.
-use Rattle.std.specs.Prelude.{◌≡◌, ℕ, ◌+◌, ◌-◌, ◌^◌, ◌<◌, ◌≤◌, min, ◌⊎◌, slice_index_or, slice_set}
+use Rattle.std.specs.Prelude.{◌≡◌, ℕ, ◌+◌, ◌-◌, ◌^◌, ◌<◌, ◌≤◌, min, ◌⊎◌, Option, Some, None, slice_index_or, slice_set}
 use Rattle.memory.specs.declared.fate.Due.{Due}
 use Rattle.memory.specs.declared.fate.Plan.{Plan}
 use Rattle.memory.specs.declared.fate.Fate.{Fate}
-use Rattle.memory.specs.declared.fate.Fate.TheVariants.{Nothing, Dies, Cut}
+use Rattle.memory.specs.declared.fate.Fate.TheVariants.{Dies, Cut}
 use Rattle.memory.specs.declared.fate.Power.{Power}
 use Rattle.memory.specs.declared.fate.Power.TheVariants.{Stays, Goes, Gone}
 
--- a place of the table at which nothing is planned
-abbrev pub never : Due
-never = record { at = 0; fate = Nothing }
+-- what is planned at place i of the table, if anything
+abbrev pub due_at : Plan → ℕ → Option Due
+due_at p i = slice_index_or p.due i None
 
--- what is planned at place i
-abbrev pub due_at : Plan → ℕ → Due
-due_at p i = slice_index_or p.due i never
+-- that much is to come at the thing asked of this number
+abbrev pub due : ℕ → Fate → Due
+due at f = record { at = at; fate = f }
 
 -- the same plan but for place i
-abbrev pub replan : ℕ → Due → Plan → Plan
-replan i x p = record { asks = p.asks; due = slice_set p.due i x; spared = p.spared; seed = p.seed; step = p.step; rest = p.rest }
+abbrev pub replan : ℕ → Option Due → Plan → Plan
+replan i x p = record { asks = p.asks; due = slice_set p.due i x; spared = p.spared; seed = p.seed }
 
 -- it is planned for the n-th thing asked from here on, at a place at which nothing was
 pub record Planned (p : Plan) (n : ℕ) (f : Fate) (q : Plan) : Type 0 where
   pub place : ℕ
   pub within : place < 32
-  pub free : (due_at p place).fate ≡ Nothing
-  pub after : q ≡ replan place (record { at = min (p.asks + n) (2 ^ 64 - 1); fate = f }) p
+  pub free : due_at p place ≡ None
+  pub after : q ≡ replan place (Some (due (min (p.asks + n) (2 ^ 64 - 1)) f)) p
 
 -- what is planned at place i is due, and is planned no more
 pub record Comes (p : Plan) (i : ℕ) (f : Fate) (q : Plan) : Type 0 where
-  pub due : (due_at p i).at ≤ p.asks
-  pub fate : (due_at p i).fate ≡ f
-  pub after : q ≡ replan i (record { at = (due_at p i).at; fate = Nothing }) p
+  pub at : ℕ
+  pub was : due_at p i ≡ Some (due at f)
+  pub come : at ≤ p.asks
+  pub after : q ≡ replan i None p
 
 -- nothing of the kind is due at place i
 abbrev pub NotYet : Plan → ℕ → Fate → Type 0
-NotYet p i f = (due_at p i).fate ≡ f → p.asks < (due_at p i).at
+NotYet p i f = (at : ℕ) → due_at p i ≡ Some (due at f) → p.asks < at
 
 -- one more thing was asked
 abbrev pub one_more : ℕ → ℕ

@@ -2,12 +2,13 @@
 -- An event is a few words, of which the last is its head, so the log is read from its end. A head h says by h % 8 what it is, and by h / 8 more:
 -- 0: so many turns; 1: that disk died; 2: a cut. 3, 4, 5: something was asked, refused or told. The word before such a head is, for 4 and 5,
 -- why or what was told; the word before that, what was asked; and before that stands the one word that all 64 are, or all 64.
-use Rattle.std.specs.Prelude.{ℕ, zero, suc, ◌/◌, ◌%◌, ◌^◌, List, [], ◌∷◌, replicate, slice_index}
+use Rattle.std.specs.Prelude.{◌≡◌, ℕ, zero, suc, ◌+◌, ◌≤◌, ◌/◌, ◌%◌, ◌^◌, List, [], ◌∷◌, length, replicate, slice_index}
 use Rattle.store.specs.Event.{Event}
 use Rattle.store.specs.declared.Ask.{Ask}
 use Rattle.store.specs.declared.Ask.TheVariants.{Read, Write, Flush, Size, Add, Replace}
 use Rattle.store.specs.declared.Reply.{Reply}
 use Rattle.store.specs.declared.Reply.TheVariants.{Done, Bytes, Many, No}
+use Rattle.memory.specs.declared.diary.Diary.{Diary}
 use Rattle.memory.specs.declared.diary.What.{What}
 use Rattle.memory.specs.declared.diary.What.TheVariants.{Asked, Refused, Told}
 
@@ -73,9 +74,18 @@ unfoldable pub latest : List ℕ → ℕ → List ℕ
 latest log zero = []
 latest log (suc k) = slice_index log k ∷ latest log k
 
--- what was seen, when n words are noted
-abbrev pub seen_of : List ℕ → ℕ → List Event
-seen_of log n = events_of Head (latest log n)
+-- the words that are noted, the latest first
+abbrev pub noted_in : Diary → List ℕ
+noted_in d = latest d.words.now d.noted
+
+-- what was seen
+abbrev pub seen_of : Diary → List Event
+seen_of d = events_of Head (noted_in d)
+
+-- at most k words more are noted, in a log of the same length
+pub record Grown (d : Diary) (k : ℕ) (e : Diary) : Type 0 where
+  pub most : e.noted ≤ d.noted + k
+  pub long : length e.words.now ≡ length d.words.now
 
 -- something was asked, refused or told
 abbrev pub event_of : What → ℕ → Ask → List ℕ → Event

@@ -8,29 +8,36 @@
 // - `fate`: which disks are alive, when disks die, when the power goes.
 // - `usage`: which disks are in use.
 // - `script`: what is asked next.
+// - `refusals`: why something could not be done.
 // - `world`: the two traits.
 #![tactic(auto)]
 
 mod diary;
 mod fate;
 mod platter;
+mod refusals;
 mod script;
 mod usage;
 mod world;
 
-ghost use Rattle.std.specs.Prelude.{◌≡◌, ◌+◌, ◌<◌, ◌≤◌, false, T, [], length};
+ghost use Rattle.std.specs.Prelude.{◌≡◌, ◌+◌, ◌<◌, ◌≤◌, [], length, OnOk, OnErr};
 ghost use Rattle.store.specs.Shelf.{AtStart};
 ghost use Rattle.memory.specs.Held.{shelf_of, start, many};
+ghost use Rattle.memory.specs.Plans.{Planned};
 ghost use Rattle.memory.specs.Words.{seen_of};
 ghost use Rattle.memory.specs.Went.{Death, Spared};
+ghost use Rattle.memory.specs.declared.fate.Fate.{Fate};
 
-use fate::{Fate, Plan, die, schedule};
-use platter::clear;
+use diary::Diary;
+use fate::{Fate, Plan};
+use platter::Platter;
+pub use refusals::{CannotDie, TableFull};
+use script::Script;
 
 // A sector of a disk: what is read of it, and what was there at the last sync. `slot` and `listed` belong to the list of what was
 // written since then: the place that is listed at `i` stands in cell `i`, and `slot` is where a cell's own place was listed last.
 #[repr(C)]
-#[derive(Clone, Copy)]
+#[derive(Clone, Copy, PartialEq, Eq, Debug)]
 pub struct Cell {
     pub shown: [u64; 64],
     pub lasting: [u64; 64],
@@ -46,46 +53,50 @@ pub const BLANK: Cell = Cell {
     listed: 0,
 };
 
-// What is known of the disks beside what they hold. `left`: how often they may still be asked. `noted`: how many words of the log are
-// taken. `written`: how many cells are listed as written since the last sync.
-#[derive(Clone, Copy)]
+// What is known of a disk beside what it holds. `lost`: it has died since it was in use.
+#[derive(Clone, Copy, PartialEq, Eq, Debug)]
+pub struct Disk {
+    alive: bool,
+    in_use: bool,
+    lost: bool,
+}
+
+// The disks, whether the power is on, and how often the disks may still be asked.
+#[derive(Clone, Copy, PartialEq, Eq, Debug)]
 pub struct State {
-    alive: [bool; 16],
-    uses: [bool; 16],
-    lost: [bool; 16],
+    disks: [Disk; 16],
     on: bool,
     left: u64,
-    noted: usize,
-    written: usize,
 }
 
 #[derive(Drop)]
 pub struct Memory<'a> {
-    cells: &'a mut [Cell],
-    log: &'a mut [u64],
-    script: &'a [u64],
+    platter: Platter<'a>,
+    diary: Diary<'a>,
+    script: Script<'a>,
     state: State,
     plan: Plan,
 }
 
 impl State {
-    // All disks are alive, four are in use, the power is on, and nothing was seen or written.
+    // All disks are alive, four are in use, and the power is on.
     fn first() -> State
         ensures { result ≡ start }
     {
-        let mut uses = [false; 16];
-        uses[0] = true;
-        uses[1] = true;
-        uses[2] = true;
-        uses[3] = true;
+        let spare = Disk {
+            alive: true,
+            in_use: false,
+            lost: false,
+        };
+        let mut disks = [spare; 16];
+        disks[..4].fill(Disk {
+            in_use: true,
+            ..spare
+        });
         State {
-            alive: [true; 16],
-            uses,
-            lost: [false; 16],
+            disks,
             on: true,
             left: 0,
-            noted: 0,
-            written: 0,
         }
     }
 }
@@ -94,14 +105,13 @@ impl<'a> Memory<'a> {
     // Disks as they start: all are alive and hold noughts, four are in use, and nothing was seen.
     pub fn new(cells: &'a mut [Cell], log: &'a mut [u64], script: &'a [u64]) -> Memory<'a>
         requires { (2048 ≤ length cells.old) × (length cells.old ≤ 68719476736) }
-        ensures starts { AtStart (shelf_of result.cells.now result.log.now result.state) }
-        ensures unseen { seen_of result.log.now result.state.noted ≡ [] }
+        ensures starts { AtStart (shelf_of result) }
+        ensures unseen { seen_of result.diary ≡ [] }
     {
-        clear(cells);
         Memory {
-            cells,
-            log,
-            script,
+            platter: Platter::new(cells),
+            diary: Diary::new(log),
+            script: Script::new(script),
             state: State::first(),
             plan: Plan::empty(),
         }
@@ -111,10 +121,12 @@ impl<'a> Memory<'a> {
 impl Memory<'_> {
     // All begins anew, as `new` has it.
     pub fn restart(&mut self)
-        ensures starts { 128 ≤ many self.old.cells.now → many self.old.cells.now ≤ 4294967296 → AtStart (shelf_of self.new.cells.now self.new.log.now self.new.state) }
-        ensures unseen { seen_of self.new.log.now self.new.state.noted ≡ [] }
+        ensures starts { 128 ≤ many self.old.platter → many self.old.platter ≤ 4294967296 → AtStart (shelf_of self.new) }
+        ensures unseen { seen_of self.new.diary ≡ [] }
     {
-        clear(self.cells);
+        self.platter.clear();
+        self.diary.clear();
+        self.script.restart();
         self.state = State::first();
         self.plan = Plan::empty();
     }
@@ -122,48 +134,41 @@ impl Memory<'_> {
     // Is the disk in use?
     pub fn in_use(&self, d: u32) -> bool
         requires { d < 16 }
-        ensures { result ≡ (shelf_of self.now.cells.now self.now.log.now self.now.state).uses d }
+        ensures { result ≡ (shelf_of self.now).uses d }
     {
-        self.state.uses[d as usize]
+        self.state.disks[d as usize].in_use
     }
 
     // A disk dies at once, if it may and that can be noted.
-    pub fn kill(&mut self, d: u32) -> bool
-        ensures done { T result → Death (shelf_of self.old.cells.now self.old.log.now self.old.state) (seen_of self.old.log.now self.old.state.noted) d (shelf_of self.new.cells.now self.new.log.now self.new.state) (seen_of self.new.log.now self.new.state.noted) }
-        ensures kept { result ≡ false → Spared (shelf_of self.old.cells.now self.old.log.now self.old.state) (seen_of self.old.log.now self.old.state.noted) d (shelf_of self.new.cells.now self.new.log.now self.new.state) (seen_of self.new.log.now self.new.state.noted) (length self.old.log.now ≤ self.old.state.noted + 1) }
+    pub fn kill(&mut self, d: u32) -> Result<(), CannotDie>
+        ensures done { OnOk result (Death (shelf_of self.old) (seen_of self.old.diary) d (shelf_of self.new) (seen_of self.new.diary)) }
+        ensures kept { OnErr result (Spared (shelf_of self.old) (seen_of self.old.diary) d (shelf_of self.new) (seen_of self.new.diary) (length self.old.diary.words.now ≤ self.old.diary.noted + 1)) }
     {
-        let mut state = self.state;
-        let done = die(self.log, &mut state, d);
-        self.state = state;
-        done
+        self.state.die(&mut self.diary, d)
     }
 
-    // A disk is to die at the n-th thing asked from now on. False where the table of what is to come is full.
-    pub fn plan_death(&mut self, d: u32, n: u64) -> bool
-        ensures { (shelf_of self.new.cells.now self.new.log.now self.new.state ≡ shelf_of self.old.cells.now self.old.log.now self.old.state) × (seen_of self.new.log.now self.new.state.noted ≡ seen_of self.old.log.now self.old.state.noted) }
+    // A disk is to die at the n-th thing asked from now on.
+    pub fn plan_death(&mut self, d: u32, n: u64) -> Result<(), TableFull>
+        ensures same { (shelf_of self.new ≡ shelf_of self.old) × (seen_of self.new.diary ≡ seen_of self.old.diary) }
+        ensures planned { OnOk result (Planned self.old.plan n (Fate.Dies d) self.new.plan) }
+        ensures unplanned { OnErr result (self.new.plan ≡ self.old.plan) }
     {
-        let mut plan = self.plan;
-        let done = schedule(&mut plan, n, Fate::Dies(d));
-        self.plan = plan;
-        done
+        self.plan.schedule(n, Fate::Dies(d))
     }
 
-    // The power is to go at the n-th thing asked from now on; `seed` chooses what is left. False where the table is full.
-    pub fn plan_cut(&mut self, n: u64, seed: u64) -> bool
-        ensures { (shelf_of self.new.cells.now self.new.log.now self.new.state ≡ shelf_of self.old.cells.now self.old.log.now self.old.state) × (seen_of self.new.log.now self.new.state.noted ≡ seen_of self.old.log.now self.old.state.noted) }
+    // The power is to go at the n-th thing asked from now on; `seed` chooses what is left.
+    pub fn plan_cut(&mut self, n: u64, seed: u64) -> Result<(), TableFull>
+        ensures same { (shelf_of self.new ≡ shelf_of self.old) × (seen_of self.new.diary ≡ seen_of self.old.diary) }
+        ensures planned { OnOk result (Planned self.old.plan n (Fate.Cut seed) self.new.plan) }
+        ensures unplanned { OnErr result (self.new.plan ≡ self.old.plan) }
     {
-        let mut plan = self.plan;
-        let done = schedule(&mut plan, n, Fate::Cut(seed));
-        self.plan = plan;
-        done
+        self.plan.schedule(n, Fate::Cut(seed))
     }
 
     // How many deaths could not be when they were due, since this was asked last.
     pub fn spared(&mut self) -> u64
-        ensures { (shelf_of self.new.cells.now self.new.log.now self.new.state ≡ shelf_of self.old.cells.now self.old.log.now self.old.state) × (seen_of self.new.log.now self.new.state.noted ≡ seen_of self.old.log.now self.old.state.noted) }
+        ensures { (shelf_of self.new ≡ shelf_of self.old) × (seen_of self.new.diary ≡ seen_of self.old.diary) }
     {
-        let n = self.plan.spared;
-        self.plan.spared = 0;
-        n
+        std::mem::take(&mut self.plan.spared)
     }
 }

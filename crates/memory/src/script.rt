@@ -15,13 +15,14 @@
 // | 8 n seed | the power goes at the n-th thing asked from here on |
 //
 // Anything else is a step at which nothing is asked. A tag or a disk that doesn't fit 32 bits counts as 4294967295.
-ghost use Rattle.std.specs.Prelude.{◌≡◌, min};
+ghost use Rattle.std.specs.Prelude.{◌≡◌, min, slice_index};
 ghost use Rattle.memory.specs.Steps.{step_of};
 
 use crate::fate::Fate;
 use store::Ask;
 
 // What a step of the script does: nothing is asked for so long; something is asked, with words that are all one; something is planned.
+// `Ask` of the store can only be copied, so this can too.
 #[derive(Clone, Copy)]
 pub enum Step {
     Rest(u64),
@@ -29,30 +30,71 @@ pub enum Step {
     Plans(u64, Fate),
 }
 
-// The words of a step.
-pub const STEP: usize = 4;
+// The words of the script, those of them that are still to come, and how long nothing is asked from here.
+#[derive(Clone, Copy)]
+pub struct Script<'a> {
+    words: &'a [u64],
+    ahead: &'a [u64],
+    rest: u64,
+}
 
 // A tag or a disk.
 fn small(x: u64) -> u32
     ensures { result ≡ min x 4294967295 }
 {
-    if x < 4294967295 { x as u32 } else { 4294967295 }
+    u32::try_from(x).unwrap_or(u32::MAX)
 }
 
 // What the four words of a step say.
-pub fn step_of(what: u64, a: u64, b: u64, c: u64) -> Step
-    ensures { result ≡ step_of what a b c }
-{
-    match what {
-        0 => Step::Rest(a),
-        1 => Step::Asks(small(a), Ask::Read(b), 0),
-        2 => Step::Asks(small(a), Ask::Write(b), c),
-        3 => Step::Asks(small(a), Ask::Flush, 0),
-        4 => Step::Asks(small(a), Ask::Size, 0),
-        5 => Step::Asks(small(a), Ask::Add(small(b)), 0),
-        6 => Step::Asks(small(a), Ask::Replace(small(b), small(c)), 0),
-        7 => Step::Plans(b, Fate::Dies(small(a))),
-        8 => Step::Plans(a, Fate::Cut(b)),
-        _ => Step::Rest(1),
+impl From<[u64; 4]> for Step {
+    ghost from_gives = { λ w s. s ≡ step_of (slice_index w 0) (slice_index w 1) (slice_index w 2) (slice_index w 3) };
+
+    fn from(words: [u64; 4]) -> Step {
+        let [what, a, b, c] = words;
+        match what {
+            0 => Step::Rest(a),
+            1 => Step::Asks(small(a), Ask::Read(b), 0),
+            2 => Step::Asks(small(a), Ask::Write(b), c),
+            3 => Step::Asks(small(a), Ask::Flush, 0),
+            4 => Step::Asks(small(a), Ask::Size, 0),
+            5 => Step::Asks(small(a), Ask::Add(small(b)), 0),
+            6 => Step::Asks(small(a), Ask::Replace(small(b), small(c)), 0),
+            7 => Step::Plans(b, Fate::Dies(small(a))),
+            8 => Step::Plans(a, Fate::Cut(b)),
+            _ => Step::Rest(1),
+        }
+    }
+}
+
+impl<'a> Script<'a> {
+    // All of it is still to come.
+    pub fn new(words: &'a [u64]) -> Script<'a> {
+        Script {
+            words,
+            ahead: words,
+            rest: 0,
+        }
+    }
+
+    // It begins anew.
+    pub fn restart(&mut self) {
+        *self = Script::new(self.words);
+    }
+
+    // The next step; none while nothing is asked, and at the end.
+    pub fn next_step(&mut self) -> Option<Step> {
+        if self.rest > 0 {
+            self.rest -= 1;
+            return None;
+        }
+        let [what, a, b, c, ahead @ ..] = self.ahead else {
+            return None;
+        };
+        self.ahead = ahead;
+        let step = Step::from([*what, *a, *b, *c]);
+        if let Step::Rest(n) = step {
+            self.rest = n.saturating_sub(1);
+        }
+        Some(step)
     }
 }

@@ -2,74 +2,93 @@
 //
 // Nothing is touched here but that part of the state: a disk that is asked for is in use from then on, and one that was told to be out
 // is no more.
-ghost use Rattle.std.specs.Prelude.{◌≡◌, ℕ, T, List};
-ghost use Rattle.store.specs.Shelf.{takes_in, told_of, out};
-ghost use Rattle.memory.specs.Held.{shelf_of};
+ghost use Rattle.std.specs.Prelude.{◌≡◌, ◌<◌, MatchOption, MatchResult, OnOk, OnErr};
+ghost use Rattle.store.specs.Shelf.{Shelf, takes_in, told_of, in_use, out};
+ghost use Rattle.memory.specs.Held.{shelf_with};
+ghost use Rattle.memory.specs.Uses.{into};
+ghost use Rattle.memory.specs.declared.diary.Diary.{Diary};
+ghost use Rattle.memory.specs.declared.platter.Platter.{Platter};
 
-use crate::{Cell, State};
+use crate::refusals::NoSuchDisk;
+use crate::{Disk, State};
 use store::{Ask, Reply};
 
-// A disk that is asked to be taken in counts as in use. False where there is no such disk.
-pub fn take_in(state: &mut State, a: Ask) -> bool
-    ensures shelf { T result → (cs : List Cell) (log : List ℕ) → shelf_of cs log state.new ≡ takes_in a (shelf_of cs log state.old) }
-    ensures noted { state.new.noted ≡ state.old.noted }
+// The disk that is asked to be taken in.
+fn asked_in(a: Ask) -> Option<u32>
+    ensures { (x : Shelf) → MatchOption result (takes_in a x ≡ x) (λ e. takes_in a x ≡ into e x) }
 {
     match a {
-        Ask::Read(_) => true,
-        Ask::Write(_) => true,
-        Ask::Flush => true,
-        Ask::Size => true,
-        Ask::Add(e) => {
-            if e > 15 {
-                return false;
-            }
-            state.uses[e as usize] = true;
-            true
-        }
-        Ask::Replace(_, e) => {
-            if e > 15 {
-                return false;
-            }
-            state.uses[e as usize] = true;
-            true
-        }
+        Ask::Add(e) | Ask::Replace(_, e) => Some(e),
+        _ => None,
     }
 }
 
-// A disk is in use no more. False where there is no such disk.
-fn leave(state: &mut State, d: u32) -> bool
-    ensures shelf { T result → (cs : List Cell) (log : List ℕ) → shelf_of cs log state.new ≡ out d (shelf_of cs log state.old) }
-    ensures noted { state.new.noted ≡ state.old.noted }
+// The disk that is out of use by what was told: the old one of a replacement, or the new one of a change that can't be.
+fn told_out(a: Ask, r: Reply) -> Option<u32>
+    ensures { (x : Shelf) → MatchOption result (told_of a r x ≡ x) (λ d. told_of a r x ≡ out d x) }
 {
-    if d > 15 {
-        return false;
+    match (a, r) {
+        (Ask::Add(e), Reply::No(_)) => Some(e),
+        (Ask::Replace(_, e), Reply::No(_)) => Some(e),
+        (Ask::Replace(d, _), Reply::Done) => Some(d),
+        _ => None,
     }
-    state.uses[d as usize] = false;
-    state.lost[d as usize] = false;
-    true
 }
 
-// What was told may take a disk out of use.
-pub fn let_out(state: &mut State, a: Ask, r: Reply) -> bool
-    ensures shelf { T result → (cs : List Cell) (log : List ℕ) → shelf_of cs log state.new ≡ told_of a r (shelf_of cs log state.old) }
-    ensures noted { state.new.noted ≡ state.old.noted }
+// The place of a disk among the sixteen.
+fn place(disk: u32) -> Result<usize, NoSuchDisk>
+    ensures { MatchResult result (λ k. (k ≡ disk) × (k < 16)) (λ _. 15 < disk) }
 {
-    match a {
-        Ask::Read(_) => true,
-        Ask::Write(_) => true,
-        Ask::Flush => true,
-        Ask::Size => true,
-        Ask::Add(e) => match r {
-            Reply::Done => true,
-            Reply::Bytes => true,
-            Reply::Many(_) => true,
-            Reply::No(_) => leave(state, e),
-        },
-        Ask::Replace(d, e) => match r {
-            Reply::Done => leave(state, d),
-            Reply::Bytes => true,
-            Reply::Many(_) => true,
-            Reply::No(_) => leave(state, e),
-        },
+    if disk > 15 {
+        Err(NoSuchDisk)
+    } else {
+        Ok(disk as usize)
+    }
+}
+
+impl State {
+    // A disk is in use from now on.
+    fn enter(&mut self, e: u32) -> Result<(), NoSuchDisk>
+        ensures shelf { OnOk result ((p : Platter) (d : Diary) → shelf_with p d self.new ≡ into e (shelf_with p d self.old)) }
+        ensures err { OnErr result (self.new ≡ self.old) }
+    {
+        self.disks[place(e)?].in_use = true;
+        Ok(())
+    }
+
+    // A disk is in use no more.
+    fn leave(&mut self, e: u32) -> Result<(), NoSuchDisk>
+        ensures shelf { OnOk result ((p : Platter) (d : Diary) → shelf_with p d self.new ≡ out e (shelf_with p d self.old)) }
+        ensures err { OnErr result (self.new ≡ self.old) }
+    {
+        let k = place(e)?;
+        self.disks[k] = Disk {
+            in_use: false,
+            lost: false,
+            ..self.disks[k]
+        };
+        Ok(())
+    }
+
+    // A disk that is asked to be taken in counts as in use.
+    pub fn take_in(&mut self, a: Ask) -> Result<(), NoSuchDisk>
+        ensures shelf { OnOk result ((p : Platter) (d : Diary) → shelf_with p d self.new ≡ takes_in a (shelf_with p d self.old)) }
+        ensures err { OnErr result (self.new ≡ self.old) }
+    {
+        match asked_in(a) {
+            Some(e) => self.enter(e),
+            None => Ok(()),
+        }
+    }
+
+    // What was told may take a disk out of use.
+    pub fn let_out(&mut self, a: Ask, r: Reply) -> Result<(), NoSuchDisk>
+        ensures shelf { OnOk result ((p : Platter) (d : Diary) → shelf_with p d self.new ≡ told_of a r (shelf_with p d self.old)) }
+        ensures err { OnErr result (self.new ≡ self.old) }
+    {
+        match told_out(a, r) {
+            Some(e) => self.leave(e),
+            None => Ok(()),
+        }
     }
 }

@@ -1,1 +1,1 @@
-mod Gone
+mod Leave

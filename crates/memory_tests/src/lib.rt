@@ -10,21 +10,16 @@ use memory::{Cell, Memory};
 use store::{Answer, Disks, World};
 
 // Reads a sector, as anyone may who has leave to ask once. The power comes back where it has gone.
-pub fn look(m: &mut Memory, d: u32, s: u64, into: &mut [u64], room: &mut [u64]) -> Answer
-    requires { length into.old ≡ 64 }
-{
+pub fn look(m: &mut Memory, d: u32, s: u64, into: &mut [u64; 64], room: &mut [u64]) -> Answer {
     if d > 15 || s >= m.sectors() {
         return Answer::Dead;
     }
     m.allow(1);
-    match m.read(d, s, into) {
-        Answer::Fine => Answer::Fine,
-        Answer::Dead => Answer::Dead,
-        Answer::Dark => {
-            m.back(room);
-            Answer::Dark
-        }
+    let answer = m.read(d, s, into);
+    if let Answer::Dark = answer {
+        m.back(room);
     }
+    answer
 }
 
 // Writes a sector of a disk in use: each of its words becomes this one.

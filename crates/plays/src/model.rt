@@ -1,94 +1,108 @@
 // What eight sectors may hold, by all that was told: a set of small numbers for each. A write that is under way when the power goes
 // may have been done or not; what was told holds.
-use crate::tape::{Event, What};
+use crate::tape::{Event, Kind, Request};
 
 // The sectors that are played with: two and two in one stripe, the first and the last ones, and two between.
 pub const SECTORS: [u64; 8] = [0, 64, 1, 65, 63, 127, 2, 100];
 
-#[derive(Clone, Copy)]
+// What stands for words that are not all one: no sector may hold it.
+const MIXED: u64 = 99;
+
+// A set of numbers below 32.
+#[derive(Clone, Copy, PartialEq, Eq, Debug)]
+struct Values(u64);
+
+// A write that is under way: to which of the sectors, and what.
+#[derive(Clone, Copy, PartialEq, Eq, Debug)]
+struct Writing {
+    sector: usize,
+    value: u64,
+}
+
+// What each of the sectors may hold, and by tags the writes that are under way.
+#[derive(Clone, Copy, PartialEq, Eq, Debug)]
 pub struct Model {
-    may: [u64; 8],
-    sector: [usize; 8],
-    value: [u64; 8],
+    may: [Values; 8],
+    writing: [Option<Writing>; 8],
 }
 
-// Which of them a sector is.
-fn index_of(s: u64) -> Option<usize> {
-    for i in 0..8 {
-        if SECTORS[i] == s {
-            return Some(i);
-        }
+impl Values {
+    fn only(v: u64) -> Values {
+        Values(1 << (v % 32))
     }
-    None
-}
 
-// The set of one number.
-fn only(v: u64) -> u64 {
-    1 << (v % 32)
+    fn contains(self, v: u64) -> bool {
+        v < 32 && self.0 & Values::only(v).0 != 0
+    }
+
+    fn insert(&mut self, v: u64) {
+        self.0 |= Values::only(v).0;
+    }
 }
 
 impl Model {
     // All of them hold noughts.
     pub fn blank() -> Model {
         Model {
-            may: [1; 8],
-            sector: [0; 8],
-            value: [0; 8],
+            may: [Values::only(0); 8],
+            writing: [None; 8],
         }
     }
 
     // The power has gone: each write that was under way is done or not.
     fn cut(&mut self) {
-        for t in 0..8 {
-            if self.value[t] != 0 {
-                let i = self.sector[t] % 8;
-                self.may[i] |= only(self.value[t]);
-                self.value[t] = 0;
+        for writing in self.writing.iter_mut() {
+            if let Some(Writing { sector, value }) = writing.take() {
+                if let Some(may) = self.may.get_mut(sector) {
+                    may.insert(value);
+                }
             }
         }
     }
 
-    // Something is asked: only what is written matters here.
-    fn asked(&mut self, t: usize, i: usize, kind: u64, v: u64) {
-        if t < 8 && kind == 1 {
-            self.sector[t] = i;
-            self.value[t] = v;
+    // Something is asked: only what is written matters here. None where there is no such sector.
+    fn asked(&mut self, request: Request) -> Option<()> {
+        let sector = SECTORS.iter().position(|&s| s == request.sector)?;
+        if request.tag < 8 && request.kind == Kind::Write {
+            self.writing[request.tag as usize] = Some(Writing {
+                sector,
+                value: request.word.unwrap_or(MIXED),
+            });
+        }
+        Some(())
+    }
+
+    // Something is told. None where that can't be: what is read was never there, or was not asked.
+    fn told(&mut self, request: Request) -> Option<()> {
+        let sector = SECTORS.iter().position(|&s| s == request.sector)?;
+        let may = self.may.get_mut(sector)?;
+        match request.kind {
+            Kind::Write => {
+                let tag = usize::try_from(request.tag).ok()?;
+                *may = Values::only(self.writing.get_mut(tag)?.take()?.value);
+                Some(())
+            }
+            Kind::Read => {
+                let word = request.word.unwrap_or(MIXED);
+                let good = may.contains(word);
+                *may = Values::only(word);
+                good.then_some(())
+            }
+            Kind::Other => None,
         }
     }
 
-    // Something is told. False where that can't be.
-    fn told(&mut self, t: usize, i: usize, kind: u64, v: u64) -> bool {
-        if t >= 8 || i >= 8 {
-            return false;
-        }
-        if kind == 1 {
-            self.may[i] = only(self.value[t]);
-            self.value[t] = 0;
-            return true;
-        }
-        let was = self.may[i];
-        self.may[i] = only(v);
-        v < 32 && was & only(v) != 0
-    }
-
-    // What comes of an event. False where it can't be: a read that reads what was never there, or something refused.
-    pub fn sees(&mut self, e: Event) -> bool {
-        let Some(i) = index_of(e.sector) else {
-            return false;
-        };
-        match e.what {
-            What::Passed => true,
-            What::Died => true,
-            What::Cut => {
+    // What comes of an event. False where it can't be, or something was refused.
+    pub fn sees(&mut self, event: Event) -> bool {
+        match event {
+            Event::Passed | Event::Died => true,
+            Event::Cut => {
                 self.cut();
                 true
             }
-            What::Refused => false,
-            What::Asked => {
-                self.asked(e.tag as usize, i, e.kind, e.word.unwrap_or(99));
-                true
-            }
-            What::Told => self.told(e.tag as usize, i, e.kind, e.word.unwrap_or(99)),
+            Event::Asked(request) => self.asked(request).is_some(),
+            Event::Refused(_) => false,
+            Event::Told(request) => self.told(request).is_some(),
         }
     }
 }

@@ -1,84 +1,118 @@
 // What was seen in a play, as the words of the log tell it. An event's last word is its head, so the log is read from its end.
-#[derive(Clone, Copy)]
-pub enum What {
-    Passed,
-    Died,
-    Cut,
-    Asked,
-    Refused,
-    Told,
+ghost use Rattle.std.specs.Prelude.{◌<◌, ◌≤◌, length, IfOk, IfSome};
+
+use std::alloc::{AllocError, Global};
+
+// What is asked. The log has a number for each.
+#[derive(Clone, Copy, PartialEq, Eq, Debug)]
+pub enum Kind {
+    Read,
+    Write,
+    Other,
 }
 
-// An event: its first word in the log; and for a request its tag, kind, sector, and its words if all 64 are one.
-#[derive(Clone, Copy)]
-pub struct Event {
-    pub start: usize,
-    pub what: What,
+// A request: its tag, kind, sector, and its words if all 64 are one.
+#[derive(Clone, Copy, PartialEq, Eq, Debug)]
+pub struct Request {
     pub tag: u64,
-    pub kind: u64,
+    pub kind: Kind,
     pub sector: u64,
     pub word: Option<u64>,
 }
 
-// An event of one word.
-fn short(start: usize, what: What) -> Event {
-    Event {
-        start,
-        what,
-        tag: 0,
-        kind: 0,
-        sector: 0,
-        word: None,
+#[derive(Clone, Copy, PartialEq, Eq, Debug)]
+pub enum Event {
+    Passed,
+    Died,
+    Cut,
+    Asked(Request),
+    Refused(Request),
+    Told(Request),
+}
+
+impl From<u64> for Kind {
+    fn from(number: u64) -> Kind {
+        match number {
+            0 => Kind::Read,
+            1 => Kind::Write,
+            _ => Kind::Other,
+        }
     }
 }
 
-// A request, with so many numbers between its words and its head.
-fn request(log: &[u64], end: usize, what: What, numbers: usize, tag: u64) -> Option<Event> {
-    if end == 0 || end > log.len() || numbers == 0 || numbers > 2 {
-        return None;
+// The request at the end of these words, whose head says this of it, and the words before it.
+fn last_request(words: &[u64], tag: u64, body: u64) -> Option<(Request, &[u64])>
+    ensures { IfSome result (λ r. length r.1.now ≤ length words.now) }
+{
+    let (sector, rest) = words.split_last()?;
+    let kind = Kind::from(body % 8);
+    if body / 8 % 2 == 0 {
+        let (word, before) = rest.split_last()?;
+        let request = Request {
+            tag,
+            kind,
+            sector: *sector,
+            word: Some(*word),
+        };
+        return Some((request, before));
     }
-    let n = log[end - 1] / 8;
-    let plain = n / 8 % 2 == 0;
-    let width = if plain { 1 } else { 64 };
-    if end < 1 + numbers + width {
-        return None;
-    }
-    let start = end - (1 + numbers + width);
-    let word = if plain { Some(log[start]) } else { None };
-    Some(Event {
-        start,
-        what,
+    let start = rest.len().checked_sub(64)?;
+    let request = Request {
         tag,
-        kind: n % 8,
-        sector: log[start + width],
-        word,
-    })
+        kind,
+        sector: *sector,
+        word: None,
+    };
+    Some((request, &rest[..start]))
 }
 
-// The event whose head is the word before `end`.
-pub fn event_before(log: &[u64], end: usize) -> Option<Event> {
-    if end == 0 || end > log.len() {
-        return None;
-    }
-    let head = log[end - 1];
+// The last event of these words, and the words before it. Between a request that was refused or told and its head stands a number.
+fn last_event(words: &[u64]) -> Option<(Event, &[u64])>
+    ensures { IfSome result (λ r. length r.1.now < length words.now) }
+{
+    let (head, rest) = words.split_last()?;
     match head % 8 {
-        0 => Some(short(end - 1, What::Passed)),
-        1 => Some(short(end - 1, What::Died)),
-        2 => Some(short(end - 1, What::Cut)),
-        3 => request(log, end, What::Asked, 1, head / 128),
-        4 => request(log, end, What::Refused, 2, head / 128),
-        5 => request(log, end, What::Told, 2, head / 512),
+        0 => Some((Event::Passed, rest)),
+        1 => Some((Event::Died, rest)),
+        2 => Some((Event::Cut, rest)),
+        3 => {
+            let (asked, before) = last_request(rest, head / 128, head / 8)?;
+            Some((Event::Asked(asked), before))
+        }
+        4 => {
+            let (_, rest) = rest.split_last()?;
+            let (refused, before) = last_request(rest, head / 128, head / 8)?;
+            Some((Event::Refused(refused), before))
+        }
+        5 => {
+            let (_, rest) = rest.split_last()?;
+            let (told, before) = last_request(rest, head / 512, head / 8)?;
+            Some((Event::Told(told), before))
+        }
         _ => None,
     }
 }
 
-// Where the last word that is not a nought ends.
-pub fn length_of(log: &[u64]) -> usize {
-    let mut end = 0;
-    for i in 0..log.len() {
-        if log[i] != 0 {
-            end = i + 1;
-        }
+// The words up to the last that is not a nought: what is behind it was never written.
+fn written(log: &[u64]) -> &[u64] {
+    let end = log
+        .iter()
+        .rposition(|&word| word != 0)
+        .map_or(0, |last| last + 1);
+    &log[..end]
+}
+
+// The events of the log, the earliest first; none where it can't be read.
+pub fn events(alloc: Global, log: &[u64]) -> Result<Option<Vec<Event>>, AllocError> {
+    let mut events = Vec::new(alloc);
+    let mut rest = written(log);
+    while !rest.is_empty() {
+        let Some((event, before)) = last_event(rest) else {
+            return Ok(None);
+        };
+        events.push(event)?;
+        rest = before;
     }
-    end
+    events.reverse();
+    Ok(Some(events))
 }

@@ -70,17 +70,17 @@ pub fn carry_out(
     match command {
         Command::New => memory.restart(),
         Command::Die { disk } => {
-            if !memory.kill(disk) {
+            if memory.kill(disk).is_err() {
                 println!(out; "kept")?;
             }
         }
         Command::DieAt { disk, ask } => {
-            if !memory.plan_death(disk, ask) {
+            if memory.plan_death(disk, ask).is_err() {
                 return answer_unknown(out, number);
             }
         }
         Command::Cut { ask, seed } => {
-            if !memory.plan_cut(ask, seed) {
+            if memory.plan_cut(ask, seed).is_err() {
                 return answer_unknown(out, number);
             }
         }

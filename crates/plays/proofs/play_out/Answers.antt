@@ -1,12 +1,6 @@
-use Rattle.std.proofs.Common.{sym, ◌∙◌, subst, arith, rules}
+use Rattle.std.proofs.Common.{sym, ◌∙◌, subst}
 use Rattle.store.specs.Shelf.{Shelf, AtStart}
 use Rattle.plays.proofs.play_out.Goals as goal
 
-pub years-requires : goal.years-requires
-years-requires c =
-    record {
-      starts = subst (λ (x : Shelf). AtStart x) (sym (c.plan_death-2.ensures.0 ∙ (c.plan_death.ensures.0 ∙ (c.plan_cut-2.ensures.0 ∙ c.plan_cut.ensures.0)))) c.new-m.ensures.starts;
-      unseen = c.plan_death-2.ensures.1 ∙ (c.plan_death.ensures.1 ∙ (c.plan_cut-2.ensures.1 ∙ (c.plan_cut.ensures.1 ∙ c.new-m.ensures.unseen)));
-      lent = search rules;
-      few = (omega arith, omega arith);
-    }
+pub years-requires-clause-starts : goal.years-requires-clause-starts
+years-requires-clause-starts c = subst (λ (x : Shelf). AtStart x) (sym (c.plan_death-2.ensures.0 ∙ (c.plan_death.ensures.0 ∙ (c.plan_cut-2.ensures.same.0 ∙ c.plan_cut.ensures.same.0)))) c.new-m.ensures.starts

@@ -1,14 +1,18 @@
+use Rattle.std.proofs.Common.{sym, subst}
+use Rattle.store.specs.Shelf.{Syncing}
+use Rattle.store.specs.declared.Answer.{Answer}
+use Rattle.memory.specs.Held.{shelf_of, shelf_with}
+use Rattle.memory.specs.Words.{seen_of}
+use Rattle.memory.specs.declared.platter.Platter.{Platter}
 use Rattle.memory.proofs.Laws.{stood}
-use Rattle.memory.proofs.Holds.{syncing_gone, syncing_goes, syncing_done}
+use Rattle.memory.proofs.Holds.{syncing_dark, syncing_done}
 use Rattle.memory.proofs.world.MemoryDisks.sync.Goals as goal
 
 pub returns-in-Gone : goal.returns-in-Gone
-returns-in-Gone c = syncing_gone _ _ _ _ (c.in-Gone.ensures.went c.args.self.now.cells.now)
-
-pub returns-in-Goes : goal.returns-in-Goes
-returns-in-Goes c = syncing_goes _ _ _ _ (c.in-Goes.ensures.went c.args.self.now.cells.now)
+returns-in-Gone c = syncing_dark _ _ _ _ _ c.in-Gone.is (c.asked.ensures.went c.args.self.now.platter)
 
 pub returns-in-Stays : goal.returns-in-Stays
 returns-in-Stays c =
-    let w = stood _ _ (c.in-Stays.ensures.went c.args.self.now.cells.now) in
-    syncing_done c.args.self.now.cells.now c.args.self.now.log.now c.asked-power.new.log c.args.self.now.state c.asked-power.new.state _ _ w.0 w.1
+    let w = stood _ _ (c.in-Stays.ensures.went c.args.self.now.platter) in
+    subst (λ (p : Platter). Syncing (shelf_of c.args.self.now) (seen_of c.args.self.now.diary) Answer.Fine (shelf_with p c.asked.new.diary c.asked.new.state) (seen_of c.asked.new.diary)) (sym c.forget.ensures)
+    (syncing_done c.args.self.now.platter c.args.self.now.diary c.asked.new.diary c.args.self.now.state c.asked.new.state _ _ w.0 w.1)

@@ -3,5 +3,5 @@ use Rattle.memory.proofs.world.MemoryWorld.back.Goals as goal
 
 pub returns : goal.returns
 returns c =
-    back_to c.args.self.now.cells.now c.choose.new.cells c.args.self.now.log.now c.note_cut.new.log c.strike.new.log c.args.self.now.state c.strike.new.state c.note_cut.result c.args.self.now.plan.seed
-    c.choose.auto.cells c.choose.ensures c.requires c.note_cut.ensures.seen c.strike.ensures.died
+    back_to c.args.self.now.platter c.choose.new.self c.args.self.now.diary c.note_cut.new.self c.wake.new.diary c.args.self.now.state c.wake.new.state c.args.self.now.plan.seed
+    c.choose.ensures.size c.choose.ensures.left c.choose.ensures.forgotten c.requires c.note_cut.ensures.seen (c.wake.ensures.died c.args.self.now.platter)
