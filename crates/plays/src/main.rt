@@ -1,5 +1,5 @@
 // Plays the store on disks in memory: the power goes at every single ask in turn, again while it comes up, and disks die before,
-// during and after. All that is told is held against a plain model. This is no part of the store, so what was seen is read into a `Vec`.
+// during and after. All that is told is held against a plain model.
 #![tactic(auto)]
 
 mod model;
@@ -11,7 +11,6 @@ ghost use Rattle.memory.specs.Words.{seen_of};
 
 use memory::{BLANK, Memory};
 use model::Model;
-use std::alloc::{AllocError, Global};
 use std::{fmt, io};
 use store::years;
 use tape::{Event, events};
@@ -114,50 +113,37 @@ impl Tally {
     }
 
     // Plays one and counts it.
-    fn count(&mut self, alloc: Global, p: Play, room: &mut [u64; ROOM]) -> Result<(), AllocError> {
+    fn count(&mut self, p: Play, room: &mut [u64; ROOM]) {
         let mut log = [0; LOG];
         play_out(p, &mut log, room);
         self.plays = self.plays.saturating_add(1);
-        let good = match events(alloc, &log)? {
-            Some(seen) => self.judge(&seen),
-            None => false,
-        };
-        if !good {
+        if !events(&log).is_some_and(|seen| self.judge(seen.as_slice())) {
             self.wrong = self.wrong.saturating_add(1);
         }
-        Ok(())
     }
 
     // A cut at every ask from the first on, with several seeds and one choice of deaths.
-    fn round(
-        &mut self,
-        alloc: Global,
-        disk: u32,
-        dead: u64,
-        room: &mut [u64; ROOM],
-    ) -> Result<(), AllocError> {
+    fn round(&mut self, disk: u32, dead: u64, room: &mut [u64; ROOM]) {
         for seed in [17, 1000020, 2000023] {
             for at in 1..241 {
-                self.count(alloc, made(at, seed, disk, dead), room)?;
+                self.count(made(at, seed, disk, dead), room);
             }
         }
-        Ok(())
     }
 }
 
 // All of them: none dies, one, or two, of each pair.
-pub fn rounds(alloc: Global, room: &mut [u64; ROOM]) -> Result<Tally, AllocError> {
+pub fn rounds(room: &mut [u64; ROOM]) -> Tally {
     let mut tally = Tally::default();
-    tally.round(alloc, 0, 0, room)?;
+    tally.round(0, 0, room);
     for disk in 0..4 {
-        tally.round(alloc, disk, 1, room)?;
-        tally.round(alloc, disk, 2, room)?;
+        tally.round(disk, 1, room);
+        tally.round(disk, 2, room);
     }
-    Ok(tally)
+    tally
 }
 
 fn main(rt: HostRuntime) -> io::Result<()> {
     let mut room = [0; ROOM];
-    let tally = rounds(rt.alloc(), &mut room)?;
-    println!(rt; "{tally}")
+    println!(rt; "{}", rounds(&mut room))
 }

@@ -1,7 +1,7 @@
 // What was seen in a play, as the words of the log tell it. An event's last word is its head, so the log is read from its end.
-ghost use Rattle.std.specs.Prelude.{◌<◌, ◌≤◌, length, IfOk, IfSome};
+ghost use Rattle.std.specs.Prelude.{◌<◌, ◌≤◌, length, IfSome};
 
-use std::alloc::{AllocError, Global};
+use arrayvec::ArrayVec;
 
 // What is asked. The log has a number for each.
 #[derive(Clone, Copy, PartialEq, Eq, Debug)]
@@ -20,8 +20,9 @@ pub struct Request {
     pub word: Option<u64>,
 }
 
-#[derive(Clone, Copy, PartialEq, Eq, Debug)]
+#[derive(Clone, Copy, PartialEq, Eq, Debug, Default)]
 pub enum Event {
+    #[default]
     Passed,
     Died,
     Cut,
@@ -102,17 +103,18 @@ fn written(log: &[u64]) -> &[u64] {
     &log[..end]
 }
 
+// The events of so many words are no more than those words.
+pub type Events<const WORDS: usize> = ArrayVec<Event, WORDS>;
+
 // The events of the log, the earliest first; none where it can't be read.
-pub fn events(alloc: Global, log: &[u64]) -> Result<Option<Vec<Event>>, AllocError> {
-    let mut events = Vec::new(alloc);
+pub fn events<const WORDS: usize>(log: &[u64; WORDS]) -> Option<Events<WORDS>> {
+    let mut events = ArrayVec::new();
     let mut rest = written(log);
     while !rest.is_empty() {
-        let Some((event, before)) = last_event(rest) else {
-            return Ok(None);
-        };
-        events.push(event)?;
+        let (event, before) = last_event(rest)?;
+        events.try_push(event).ok()?;
         rest = before;
     }
-    events.reverse();
-    Ok(Some(events))
+    events.as_mut_slice().reverse();
+    Some(events)
 }
