@@ -17,7 +17,7 @@ use memory::{BLANK, Memory};
 use script::{Command, parse};
 use std::io;
 use std::io::Read;
-use village::{answer_unknown, carry_out};
+use village::Village;
 
 // The cells of sixteen disks of 192 sectors.
 const CELLS: usize = 3072;
@@ -32,59 +32,50 @@ fn command(line: &Line) -> Option<Command>
     parse(line.as_slice())
 }
 
-// Carries out the line of this number.
-fn answer(out: &impl Print, memory: &mut Memory, line: &Line, number: u64) -> io::Result<()> {
-    match command(line) {
-        Some(c) => carry_out(out, memory, c, number),
-        None => answer_unknown(out, number),
-    }
-}
-
-// Plays the lines that end among these bytes, of which the first has this number, and answers the number of the line behind
-// them. What stands behind the last newline is kept in `line`.
-fn play_some(
-    out: &impl Print,
-    memory: &mut Memory,
-    bytes: &[u8],
-    line: &mut Line,
-    first: u64,
-) -> io::Result<u64>
-    ensures number { IfOk result (λ n. n ≡ min (first + newlines bytes.now) (2 ^ 64 - 1)) }
-    ensures after { (begun : List ℕ) → line.old.items ≡ take 256 begun → OnOk result (line.new.items ≡ take 256 (unended begun bytes.now)) }
-{
-    let mut number = first;
-    let mut rest = bytes;
-    while let Some(n) = rest.iter().position(|&b| b == b'\n') {
-        keep(line, &rest[..n]);
-        answer(out, memory, line, number)?;
-        line.clear();
-        number = number.saturating_add(1);
-        rest = &rest[n + 1..];
-    }
-    keep(line, rest);
-    Ok(number)
-}
-
-// Plays a script to its end, a block at a time.
-fn play(
-    out: &impl Print,
-    memory: &mut Memory,
-    input: &mut impl Read,
-    block: &mut [u8],
-) -> io::Result<()> {
-    let mut line = Line::new();
-    let mut number = 1;
-    for _ in 0..u64::MAX {
-        let n = input.read(block)?;
-        if n == 0 {
-            break;
+impl<P: Print> Village<'_, P> {
+    // Carries out the line of this number.
+    fn answer(&mut self, line: &Line, number: u64) -> io::Result<()> {
+        match command(line) {
+            Some(c) => self.carry_out(c, number),
+            None => self.answer_unknown(number),
         }
-        number = play_some(out, memory, &block[0..n], &mut line, number)?;
     }
-    if line.is_empty() {
-        Ok(())
-    } else {
-        answer(out, memory, &line, number)
+
+    // Plays the lines that end among these bytes, of which the first has this number, and answers the number of the line behind
+    // them. What stands behind the last newline is kept in `line`.
+    fn play_some(&mut self, bytes: &[u8], line: &mut Line, first: u64) -> io::Result<u64>
+        ensures number { IfOk result (λ n. n ≡ min (first + newlines bytes.now) (2 ^ 64 - 1)) }
+        ensures after { (begun : List ℕ) → line.old.items ≡ take 256 begun → OnOk result (line.new.items ≡ take 256 (unended begun bytes.now)) }
+    {
+        let mut number = first;
+        let mut rest = bytes;
+        while let Some(n) = rest.iter().position(|&b| b == b'\n') {
+            keep(line, &rest[..n]);
+            self.answer(line, number)?;
+            line.clear();
+            number = number.saturating_add(1);
+            rest = &rest[n + 1..];
+        }
+        keep(line, rest);
+        Ok(number)
+    }
+
+    // Plays a script to its end, a block at a time.
+    fn play(&mut self, input: &mut impl Read, block: &mut [u8]) -> io::Result<()> {
+        let mut line = Line::new();
+        let mut number = 1;
+        for _ in 0..u64::MAX {
+            let n = input.read(block)?;
+            if n == 0 {
+                break;
+            }
+            number = self.play_some(&block[0..n], &mut line, number)?;
+        }
+        if line.is_empty() {
+            Ok(())
+        } else {
+            self.answer(&line, number)
+        }
     }
 }
 
@@ -92,7 +83,7 @@ fn main(rt: HostRuntime) -> io::Result<()> {
     let mut cells = [BLANK; CELLS];
     let mut log = [0; LOG];
     let mut block = [0; 8192];
-    let mut memory = Memory::new(&mut cells, &mut log, &[]);
+    let memory = Memory::new(&mut cells, &mut log, &[]);
     let mut input = rt.stdin();
-    play(&rt, &mut memory, &mut input, &mut block)
+    Village::new(&rt, memory).play(&mut input, &mut block)
 }

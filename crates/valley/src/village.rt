@@ -19,74 +19,84 @@ pub enum Passed {
     Cut,
 }
 
-// Answers each death that was planned and could not be when it was due.
-fn answer_spared(out: &impl Print, memory: &mut Memory) -> io::Result<()> {
-    for _ in 0..memory.spared() {
-        println!(out; "kept")?;
+// The disks of the village, and where what is said of them goes.
+#[derive(Drop)]
+pub struct Village<'a, P: Print> {
+    out: &'a P,
+    memory: Memory<'a>,
+}
+
+impl<'a, P: Print> Village<'a, P> {
+    pub fn new(out: &'a P, memory: Memory<'a>) -> Village<'a, P> {
+        Village { out, memory }
     }
-    Ok(())
 }
 
-// One turn of the store.
-fn turn(out: &impl Print, memory: &mut Memory) -> io::Result<Passed> {
-    answer_spared(out, memory)?;
-    Ok(Passed::NoStore)
-}
-
-// So many turns pass.
-fn pass(out: &impl Print, memory: &mut Memory, turns: u64) -> io::Result<()> {
-    for _ in 0..turns {
-        if turn(out, memory)? == Passed::NoStore {
-            break;
+impl<P: Print> Village<'_, P> {
+    // Answers each death that was planned and could not be when it was due.
+    fn answer_spared(&mut self) -> io::Result<()> {
+        for _ in 0..self.memory.spared() {
+            println!(self.out; "kept")?;
         }
+        Ok(())
     }
-    Ok(())
-}
 
-// Turns pass until the tag is told or the power goes.
-fn wait(out: &impl Print, memory: &mut Memory, tag: u32) -> io::Result<()> {
-    for _ in 0..PATIENCE {
-        match turn(out, memory)? {
-            Passed::Quiet => {}
-            Passed::Told(t) if t != tag => {}
-            Passed::Told(_) | Passed::NoStore | Passed::Cut => break,
-        }
+    // One turn of the store.
+    fn turn(&mut self) -> io::Result<Passed> {
+        self.answer_spared()?;
+        Ok(Passed::NoStore)
     }
-    Ok(())
-}
 
-// Answers a line that is no command, or whose command cannot be carried out.
-pub fn answer_unknown(out: &impl Print, number: u64) -> io::Result<()> {
-    println!(out; "line {number}?")
-}
-
-// Carries out the command of the line of this number; those that are left need a store.
-pub fn carry_out(
-    out: &impl Print,
-    memory: &mut Memory,
-    command: Command,
-    number: u64,
-) -> io::Result<()> {
-    match command {
-        Command::New => memory.restart(),
-        Command::Die { disk } => {
-            if memory.kill(disk).is_err() {
-                println!(out; "kept")?;
+    // So many turns pass.
+    fn pass(&mut self, turns: u64) -> io::Result<()> {
+        for _ in 0..turns {
+            if self.turn()? == Passed::NoStore {
+                break;
             }
         }
-        Command::DieAt { disk, ask } => {
-            if memory.plan_death(disk, ask).is_err() {
-                return answer_unknown(out, number);
-            }
-        }
-        Command::Cut { ask, seed } => {
-            if memory.plan_cut(ask, seed).is_err() {
-                return answer_unknown(out, number);
-            }
-        }
-        Command::Turn { turns } => pass(out, memory, turns)?,
-        Command::Until { tag } => wait(out, memory, tag)?,
-        _ => return answer_unknown(out, number),
+        Ok(())
     }
-    Ok(())
+
+    // Turns pass until the tag is told or the power goes.
+    fn wait(&mut self, tag: u32) -> io::Result<()> {
+        for _ in 0..PATIENCE {
+            match self.turn()? {
+                Passed::Quiet => {}
+                Passed::Told(t) if t != tag => {}
+                Passed::Told(_) | Passed::NoStore | Passed::Cut => break,
+            }
+        }
+        Ok(())
+    }
+
+    // Answers a line that is no command, or whose command cannot be carried out.
+    pub fn answer_unknown(&self, number: u64) -> io::Result<()> {
+        println!(self.out; "line {number}?")
+    }
+
+    // Carries out the command of the line of this number; those that are left need a store.
+    pub fn carry_out(&mut self, command: Command, number: u64) -> io::Result<()> {
+        match command {
+            Command::New => self.memory.restart(),
+            Command::Die { disk } => {
+                if self.memory.kill(disk).is_err() {
+                    println!(self.out; "kept")?;
+                }
+            }
+            Command::DieAt { disk, ask } => {
+                if self.memory.plan_death(disk, ask).is_err() {
+                    return self.answer_unknown(number);
+                }
+            }
+            Command::Cut { ask, seed } => {
+                if self.memory.plan_cut(ask, seed).is_err() {
+                    return self.answer_unknown(number);
+                }
+            }
+            Command::Turn { turns } => self.pass(turns)?,
+            Command::Until { tag } => self.wait(tag)?,
+            _ => return self.answer_unknown(number),
+        }
+        Ok(())
+    }
 }

@@ -1,7 +1,7 @@
 use Rattle.std.proofs.Common.{◌≡◌, ℕ, ◌+◌, ◌-◌, ◌^◌, ◌<◌, ◌≤◌, min, List, length, take}
 use Rattle.valley.specs.Lines.{newlines, unended}
 use Rattle.valley.proofs.Plays.{Begun}
-use Rattle.valley.proofs.play_some.Given as goal
+use Rattle.valley.proofs.village.Village.play_some.Given as goal
 
 abbrev pub invariant-loop-n : goal.invariant-loop-n
 invariant-loop-n g l =

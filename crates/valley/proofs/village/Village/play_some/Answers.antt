@@ -2,7 +2,7 @@ use Rattle.std.proofs.Common.{◌≡◌, ℕ, ◌<◌, length, get_or, take, ap,
 use Rattle.std.proofs.lemmas.List.{length-take, length-drop}
 use Rattle.valley.proofs.Pieces.{last_line}
 use Rattle.valley.proofs.Plays.{begun_last, begun_next, newlines_next}
-use Rattle.valley.proofs.play_some.Goals as goal
+use Rattle.valley.proofs.village.Village.play_some.Goals as goal
 
 pub loop-n-preserved : goal.loop-n-preserved
 loop-n-preserved g c =
