@@ -2,7 +2,7 @@
 // It touches nothing but what it is lent. The crate `export_c` exports it.
 #![tactic(auto)]
 
-ghost use Rattle.std.specs.Prelude.{◌≡◌, ◌↔◌, length, IsTrue, OnOk, OnErr};
+ghost use Rattle.std.specs.Prelude.{◌≡◌, ◌↔◌, length, Some, IsTrue, OnOk, OnErr, codes};
 ghost use Rattle.export.specs.Fitting.{Fitting};
 
 use memory::{Cell, Memory};
@@ -15,8 +15,10 @@ use store::years;
 pub struct Misfit;
 
 impl fmt::Display for Misfit {
+    ghost output = { λ _. Some (codes "what is lent does not fit") };
+
     fn fmt<W: fmt::Write>(&self, f: &mut fmt::Formatter<W>) -> fmt::Result {
-        write!(f, "what is lent does not fit")
+        f.write_str("what is lent does not fit")
     }
 }
 

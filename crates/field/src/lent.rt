@@ -1,6 +1,6 @@
 // Stripes in one slice of words, one column behind the other, as programs in C and Rust lend them. No proof holds such a caller to a
 // contract, so what doesn't fit is refused. Nothing is touched but the words that are lent. The crate `field_c` exports these calls.
-ghost use Rattle.std.specs.Prelude.{◌≡◌, ◌+◌, ◌-◌, ◌*◌, ◌<◌, ◌≤◌, length, IfOk, OnOk, OnErr};
+ghost use Rattle.std.specs.Prelude.{◌≡◌, ◌+◌, ◌-◌, ◌*◌, ◌<◌, ◌≤◌, length, Some, IfOk, OnOk, OnErr, codes};
 ghost use Rattle.field.specs.Column.{IsP, IsQ};
 ghost use Rattle.field.specs.Stripe.{column, data_of, Cut, Written, Anew, MendsTwo};
 
@@ -15,8 +15,10 @@ use std::fmt;
 pub struct Misfit;
 
 impl fmt::Display for Misfit {
+    ghost output = { λ _. Some (codes "no stripe of so many columns, or no such columns") };
+
     fn fmt<W: fmt::Write>(&self, f: &mut fmt::Formatter<W>) -> fmt::Result {
-        write!(f, "no stripe of so many columns, or no such columns")
+        f.write_str("no stripe of so many columns, or no such columns")
     }
 }
 

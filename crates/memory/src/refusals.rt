@@ -1,4 +1,6 @@
 // Why something could not be done. Nothing is touched here.
+ghost use Rattle.std.specs.Prelude.{Some, codes};
+
 use std::error::Error;
 use std::fmt;
 
@@ -19,16 +21,20 @@ pub struct CannotDie;
 pub struct TableFull;
 
 impl fmt::Display for CannotDie {
+    ghost output = { λ _. Some (codes "the disk may not die now") };
+
     fn fmt<W: fmt::Write>(&self, f: &mut fmt::Formatter<W>) -> fmt::Result {
-        write!(f, "the disk may not die now")
+        f.write_str("the disk may not die now")
     }
 }
 
 impl Error for CannotDie {}
 
 impl fmt::Display for TableFull {
+    ghost output = { λ _. Some (codes "no more deaths and cuts can be planned") };
+
     fn fmt<W: fmt::Write>(&self, f: &mut fmt::Formatter<W>) -> fmt::Result {
-        write!(f, "no more deaths and cuts can be planned")
+        f.write_str("no more deaths and cuts can be planned")
     }
 }
 

@@ -5,7 +5,7 @@
 mod model;
 mod tape;
 
-ghost use Rattle.std.specs.Prelude.{◌≡◌};
+ghost use Rattle.std.specs.Prelude.{◌≡◌, ◌++◌, Some, codes, decimal};
 ghost use Rattle.memory.specs.Held.{shelf_of};
 ghost use Rattle.memory.specs.Words.{seen_of};
 
@@ -45,6 +45,8 @@ pub struct Tally {
 }
 
 impl fmt::Display for Tally {
+    ghost output = { λ t. Some (decimal t.plays ++ (codes " plays, " ++ (decimal t.cuts ++ (codes " cuts, " ++ (decimal t.deaths ++ (codes " deaths, " ++ (decimal t.told ++ (codes " told, " ++ (decimal t.wrong ++ codes " wrong"))))))))) };
+
     fn fmt<W: fmt::Write>(&self, f: &mut fmt::Formatter<W>) -> fmt::Result {
         write!(
             f,
