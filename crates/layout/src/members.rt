@@ -58,7 +58,8 @@ fn one_unless(a: usize, p: usize) -> Marks
 }
 
 // Four to twelve disks of the sixteen, each in its place, no disk twice; and at most two of them known to be dead, so that these need
-// not be asked again. Behind the last of them are noughts, so that two with the same members are the same.
+// not be asked again. Behind the last of them are noughts, so that two with the same members are the same. An array and how many, and no
+// `ArrayVec`: members are copied with the superblock that they stand in.
 #[derive(Clone, Copy, PartialEq, Eq, Debug)]
 pub struct Members {
     disks: [u32; 12],

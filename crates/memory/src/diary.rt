@@ -26,7 +26,7 @@ pub struct Coded {
     number: u64,
 }
 
-// The log, of which so many words are taken.
+// The log, of which so many words are taken. It is lent, so that no heap is needed.
 #[derive(Drop)]
 pub struct Diary<'a> {
     words: &'a mut [u64],
@@ -134,7 +134,7 @@ impl Diary<'_> {
         self.noted += 1;
     }
 
-    // The 64 words: one of them if they are all one. Answers 0 then, and else 1.
+    // The 64 words: one of them if they are all one. Answers 0 then, and else 1, for so it stands in the head of the event.
     fn push_words(&mut self, words: &[u64]) -> u64
         requires { (self.old.noted + 64 ≤ length self.old.words.now) × (length words.now ≡ 64) }
         ensures read { (f : List ℕ → Event) → events_of (await result f) (noted_in self.new) ≡ f words.now ∷ seen_of self.old }
@@ -160,11 +160,11 @@ impl Diary<'_> {
         ensures read { (x : ℕ) (l : List ℕ) → noted_in self.old ≡ x ∷ l → seen_of self.new ≡ events_of (await (body / 8) (event_of what tag (ask_of (body % 8) x))) l }
         ensures grown { Grown self.old 2 self.new }
     {
-        let tag = tag as u64;
+        let tag = u64::from(tag);
         match what {
             What::Asked => self.push(3 + 8 * (body + 16 * tag)),
             What::Refused(why) => {
-                self.push(why as u64);
+                self.push(u64::from(why));
                 self.push(4 + 8 * (body + 16 * tag));
             }
             What::Told(r) => {
@@ -223,7 +223,7 @@ impl Diary<'_> {
         ensures same { full self.new ≡ full self.old }
         ensures err { OnErr result (length self.old.words.now ≤ self.old.noted + 1) }
     {
-        self.note_word(1 + 8 * d as u64)
+        self.note_word(1 + 8 * u64::from(d))
     }
 
     // One more turn, in one word with the turns right before it, if there is room to note it.

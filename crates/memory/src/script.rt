@@ -45,7 +45,7 @@ fn small(x: u64) -> u32
     u32::try_from(x).unwrap_or(u32::MAX)
 }
 
-// What the four words of a step say.
+// What the four words of a step say. Others write them, so each kind has its number.
 impl From<[u64; 4]> for Step {
     ghost from_gives = { λ w s. s ≡ step_of (slice_index w 0) (slice_index w 1) (slice_index w 2) (slice_index w 3) };
 

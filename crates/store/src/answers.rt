@@ -1,7 +1,8 @@
 // The disks, asked one thing at a time. A disk that is dead is gone on from; the power's going goes out by `Result`.
 //
 // Only this module calls the disks. What it promises is in the words of specs/Durable: `went` says what holds either way (how many
-// asks, what may have been written, that only deaths were seen), `how` what came of it.
+// asks, what may have been written, that only deaths were seen), `how` what came of it. The shelf and what was seen stand side by side in
+// each clause here and above, for so `Disks` gives them.
 ghost use Rattle.std.specs.Prelude.{◌≡◌, ◌<◌, false, MatchResult};
 ghost use Rattle.store.specs.Shelf.{MayAsk, MayWrite};
 ghost use Rattle.store.specs.Durable.{Lives, Went, Nowhere, Here, Heard, Wrote, Synced};
