@@ -10,7 +10,8 @@ use std::error::Error;
 use std::fmt;
 use store::years;
 
-// Not as much was lent as `years` needs, or it is to go on for longer than it may.
+// Not as much was lent as `years` needs, or it is to go on for longer than it may. An error of this crate's own: the
+// field's says another thing, and nothing here builds on the field.
 #[derive(Clone, Copy, PartialEq, Eq, Debug)]
 pub struct Misfit;
 

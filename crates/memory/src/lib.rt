@@ -10,6 +10,8 @@
 // - `script`: what is asked next.
 // - `refusals`: why something could not be done.
 // - `world`: the two traits.
+//
+// An `as` is between `usize` and another size, for which there is no `From`.
 #![tactic(auto)]
 
 mod diary;

@@ -110,6 +110,7 @@ fn the_script_is_asked(rt: HostRuntime) {
     let script = [2, 3, 5, 7, 0, 2, 0, 0, 7, 0, 1, 0, 6, 1, 2, 9];
     on_disks(&script, |m| {
         let mut words = [0; 64];
+        // `Ask` can only be copied, so it is matched.
         assert!(rt; matches!(m.next(&mut words), Some((3, Ask::Write(5)))));
         assert!(rt; words[0] == 7 && words[63] == 7);
         assert!(rt; m.next(&mut words).is_none());

@@ -11,7 +11,7 @@ use crate::tags::Tag;
 use crate::{Ask, Disks, Gone, Reply, Store};
 
 impl Store {
-    // How many sectors the store has.
+    // How many sectors the store has; there is no `From` of a `usize`.
     pub fn size(&self) -> u64
         requires { (64 ≤ self.now.sectors) × (self.now.sectors ≤ 4294967296) }
         ensures { result ≡ (length self.now.superblock.members.list - 2) * (self.now.sectors - 64) }

@@ -37,7 +37,7 @@ impl From<Tag> for u32 {
 }
 
 impl Tag {
-    // Its place in a table of eight.
+    // Its place in a table of eight; there is no `From` to a `usize`.
     pub fn index(self) -> usize
         ensures { (result ≡ self.number) × (result < 8) }
     {
