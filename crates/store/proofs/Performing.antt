@@ -18,7 +18,7 @@ use Rattle.store.specs.Keeping.{Columns, Sound, Ready}
 use Rattle.store.specs.Writes.{MarksTrue, journalling}
 use Rattle.store.specs.Sectors.{sector_of, Rewrites, Fetched, Saved, Unsaved}
 use Rattle.store.specs.Tags.{at, Entry, Reaches}
-use Rattle.store.specs.Between.{Explains, Lost, Serving, Performed}
+use Rattle.store.specs.Between.{Explains, Standing, Lost, Serving, Performed}
 use Rattle.store.specs.declared.Ask.{Ask}
 use Rattle.store.specs.declared.Reply.{Reply}
 use Rattle.store.specs.declared.tags.Tag.{Tag}
@@ -26,7 +26,7 @@ use Rattle.store.specs.declared.Ask.TheVariants.{Read, Write, Flush, Size}
 use Rattle.store.specs.declared.Reply.TheVariants.{Done, Bytes, Many}
 use Rattle.store.specs.declared.Store.{Store}
 use Rattle.store.proofs.Standing.{sound_twice, ready_asked}
-use Rattle.store.proofs.Histories.{mourned, explains_deaths, explains_later}
+use Rattle.store.proofs.Histories.{mourned, explains_like, stands_like, explains_deaths, explains_later}
 use Rattle.store.proofs.Opening.{left_lost}
 use Rattle.store.proofs.Turning.{both, young_way}
 
@@ -56,10 +56,6 @@ asks_of o a w n (Over b r u g) p e = absurd e
 abbrev pub under : Store → Superblock → Store
 under s b = record { sectors = s.sectors; superblock = b; tags = s.tags }
 
--- the columns explain what is seen if they explain what had the same disks and contents
-explains_as : {n : ℕ} {es : List Event} {S : Super} {c : Columns} {h h' : Seen} → Explains n 0 es S c h → Run can n es h' → h'.disks ≡ h.disks → ((i : ℕ) → h'.content i (h'.count i) ≡ h.content i (h.count i)) → Explains n 2 es S c h'
-explains_as v r d f = record { run = r; matches = record { disks = d ∙ v.matches.disks; content = λ i. f i ∙ v.matches.content i }; coded = v.coded; idle = v.idle; early = omega (arith, v.early) }
-
 module _ {s : Store} {room : List ℕ} {x : Shelf} {es : List Event} (v : Serving s room x es) where
   -- how many sectors there are
   pub size_is : size_of x.sectors v.h ≡ (length s.superblock.members.list - 2) * (s.sectors - 64)
@@ -77,20 +73,12 @@ module _ {s : Store} {room : List ℕ} {x : Shelf} {es : List Event} (v : Servin
     abbrev over : Reply → List ℕ → Seen → Seen
     over r back h = set_way t (Over a r back k.g) h
 
-    performed : (r : Reply) (back words : List ℕ) {y : Shelf} {fs : List Event} {S : Super} {c : Columns} (b : Superblock) (h : Seen) → h.way ≡ v.h.way → h.disks ≡ v.h.disks →
-        says b ≡ S → s.sectors ≡ y.sectors → y.on ≡ true → Ready y S c → MarksTrue y b.members → Explains y.sectors 2 fs S c (over r back h) → T (starts_with back words) →
-        Performed a r t words (under s b) v.h y fs
-    performed r back words {y} {fs} {S} {c} b h ways disks same size lit ready marks explains starts =
+    performed : (r : Reply) (back words : List ℕ) {s' : Store} {y : Shelf} {fs : List Event} {c : Columns} (h : Seen) → h.way ≡ v.h.way → h.disks ≡ v.h.disks → Standing s' y 2 fs c (over r back h) → T (starts_with back words) → Performed a r t words s' v.h y fs
+    performed r back words {c = c} h ways disks stands starts =
         record {
           c = c;
           h' = over r back h;
-          stands = record {
-            lit = lit;
-            ready = subst (λ (Q : Super). Ready y Q c) (sym same) ready;
-            marks = marks;
-            same = size;
-            explains = subst (λ (Q : Super). Explains y.sectors 2 fs Q c (over r back h)) (sym same) explains;
-          };
+          stands = stands;
           back = back;
           age = k.g;
           young = young_way v.table t l k.is;
@@ -111,6 +99,9 @@ module _ {s : Store} {room : List ℕ} {x y : Shelf} {es fs : List Event} (v : S
 
   explained : Explains y.sectors 0 fs S v.c since
   explained = explains_deaths died v.stands.explains
+
+  stands_under : {N : Super} {c : Columns} {h : Seen} (b : Superblock) → says b ≡ N → y.on ≡ true → Ready y N c → MarksTrue y b.members → Explains y.sectors 2 fs N c h → Standing (under s b) y 2 fs c h
+  stands_under b e lit ready marks explains = record { lit = lit; ready = rw e ready; marks = marks; same = v.stands.same ∙ sym died.size; explains = rw e explains }
 
   lost_sound : y.on ≡ false → Sound y S v.c → Lost y fs
   lost_sound off k =
@@ -152,7 +143,7 @@ module _ {s : Store} {room : List ℕ} {x y : Shelf} {es fs : List Event} (v : S
     performed_write b words same marks saved =
         let done : Saved y.sectors i w S x y = subst (λ (n : ℕ). Saved n i w S x y) size saved in
         let put = done.ready v.c v.stands.ready v.stands.explains.coded in
-        performed v l k Done [] words b (new_content i w since) refl refl (rw (← size) same) size done.lit put.1.0 marks (wrote_explains _ put.0 put.1.1) tt
+        performed v l k Done [] words (new_content i w since) refl refl (stands_under b (rw (← size) same) done.lit put.1.0 marks (wrote_explains _ put.0 put.1.1)) tt
 
     pub lost_write : Unsaved s.sectors i w S x y → Lost y fs
     lost_write unsaved =
@@ -173,7 +164,7 @@ module _ {s : Store} {room : List ℕ} {x y : Shelf} {es fs : List Event} (v : S
       let seen = v.h.content i (v.h.count i) in
       let words : into ≡ sector_of x.sectors i v.c = rw (← v.stands.same) (got.words_are v.c v.stands.ready v.stands.explains.coded) in
       let ex = explained v went.deaths in
-      performed v l k Bytes seen into b (since v went.deaths) refl refl same (v.stands.same ∙ sym went.deaths.size) (got.lit v.stands.lit) ready marks (explains_as ex (reads t ex.run k.is) refl (λ j. refl))
+      performed v l k Bytes seen into (since v went.deaths) refl refl (stands_under v went.deaths b same (got.lit v.stands.lit) ready marks (explains_like ex (omega arith) (reads t ex.run k.is)))
       (subst (λ (q : List ℕ). T (starts_with seen q)) (v.stands.explains.matches.content i ∙ sym words) (starts_self seen))
 
   pub lost_read : y.on ≡ false → Lost y fs
@@ -183,16 +174,13 @@ module _ {s : Store} {room : List ℕ} {x y : Shelf} {es fs : List Event} (v : S
 module _ {s : Store} {room : List ℕ} {x : Shelf} {es : List Event} (v : Serving s room x es) {t : ℕ} (l : t < 8) (words : List ℕ) {w : List ℕ} where
   pub performed_flush : Asks Flush w (size_of x.sectors v.h) (v.h.way t) → Performed Flush Done t words s v.h x es
   unfolding starts_with
-  performed_flush k =
-      let st = v.stands in
-      performed v l k Done [] words s.superblock (lasting k.m v.h) refl refl refl st.same st.lit st.ready st.marks (explains_as st.explains (flushes t st.explains.run k.is) refl (λ i. refl)) tt
+  performed_flush k = performed v l k Done [] words (lasting k.m v.h) refl refl (stands_like v.stands refl refl (omega arith) (flushes t v.stands.explains.run k.is)) tt
 
   pub performed_size : (k : ℕ) → k ≡ (length s.superblock.members.list - 2) * (s.sectors - 64) → Asks Size w (size_of x.sectors v.h) (v.h.way t) → Performed Size (Many k) t words s v.h x es
   unfolding starts_with
   performed_size k e q =
-      let st = v.stands in
-      performed v l q (Many k) [] words s.superblock v.h refl refl refl st.same st.lit st.ready st.marks
-      (explains_as st.explains (subst (λ (z : ℕ). Run can x.sectors es (set_way t (Over Size (Many z) [] q.g) v.h)) (sym (e ∙ sym (size_is v))) (sizes t st.explains.run q.is)) refl (λ i. refl)) tt
+      let run = subst (λ (z : ℕ). Run can x.sectors es (set_way t (Over Size (Many z) [] q.g) v.h)) (size_is v ∙ sym e) (sizes t v.stands.explains.run q.is) in
+      performed v l q (Many k) [] words v.h refl refl (stands_like v.stands refl refl (omega arith) run) tt
 
 -- the words of the tags lie below 512, and what is behind them does not touch them
 pub tags_kept : (m : ℕ) (room ys : List ℕ) → length room ≡ 65536 → (t : ℕ) → t < 8 → column t (put_mid 512 m room ys) ≡ column t room
