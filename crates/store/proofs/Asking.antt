@@ -13,6 +13,7 @@ use Rattle.store.specs.declared.Ask.{Ask}
 use Rattle.store.specs.declared.Ask.TheVariants.{Read, Write, Flush, Size, Add, Replace}
 use Rattle.store.specs.declared.Reply.{Reply}
 use Rattle.store.specs.declared.Store.{Store}
+use Rattle.store.proofs.Histories.{stands_like}
 
 -- ---- what reads, writes, flushes and sizes take in, and leave: nothing
 
@@ -138,23 +139,10 @@ module _ {s : Store} {room : List ℕ} {x : Shelf} {es : List Event} (v : Servin
   unfolding ticks
   refused_on zero l e = absurd (omega arith)
   refused_on (suc k) l e =
-      let ex = v.stands.explains in
       record {
         c = v.c;
         h = v.h;
-        stands = record {
-          lit = v.stands.lit;
-          ready = v.stands.ready;
-          marks = v.stands.marks;
-          same = v.stands.same;
-          explains = record {
-            run = subst (λ (z : ℕ). Run can x.sectors (Refused t a w z ∷ es) v.h) (sym e) (refuses t a w ex.run (subst (λ (z : ℕ). 0 < z) e l));
-            matches = ex.matches;
-            coded = ex.coded;
-            idle = ex.idle;
-            early = ex.early;
-          };
-        };
+        stands = stands_like v.stands refl refl (omega arith) (subst (λ (z : ℕ). Run can x.sectors (Refused t a w z ∷ es) v.h) (sym e) (refuses t a w v.stands.explains.run (subst (λ (z : ℕ). 0 < z) e l)));
         table = v.table;
       }
 
@@ -163,25 +151,11 @@ module _ {s : Store} {room : List ℕ} {x : Shelf} {es : List Event} (v : Servin
       Serving s' room' (takes_in a x) (Asked t a w ∷ es)
   unfolding ticks
   asked_on s' room' size super long noted cursor here others fits built e =
-      let ex = v.stands.explains in
-      let st = v.stands in
       subst (λ (z : Shelf). Serving s' room' z (Asked t a w ∷ es)) (sym (takes_nothing a x built))
       (record {
         c = v.c;
         h = set_disks v.h.disks (begins a v.h.change) (set_way t (Under a w v.h.count 0) v.h);
-        stands = record {
-          lit = st.lit;
-          ready = rw super st.ready;
-          marks = rw super st.marks;
-          same = size ∙ st.same;
-          explains = rw super (record {
-            run = asks t a w ex.run (sym e);
-            matches = record { disks = ex.matches.disks; content = ex.matches.content };
-            coded = ex.coded;
-            idle = ex.idle;
-            early = ex.early;
-          });
-        };
+        stands = stands_like v.stands size super (omega arith) (asks t a w v.stands.explains.run (sym e));
         table = record {
           in_turn = omega (arith, cursor, v.table.in_turn);
           entries = entries_asked v.table s' room' t a w v.h.count long noted cursor here others built fits;

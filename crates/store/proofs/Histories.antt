@@ -1,6 +1,6 @@
 -- What a history keeps of itself, and what deaths and a cut add to it.
 -- Assumes nothing.
-use Rattle.std.proofs.Common.{◌≡◌, ℕ, ◌+◌, ◌≤◌, Bool, true, false, cond, not, ◌||◌, T, eqb, ltb, List, [], ◌∷◌, sym, refl, ap, ◌∙◌, subst, inl, inr, zero-le, arith}
+use Rattle.std.proofs.Common.{◌≡◌, ℕ, ◌+◌, ◌*◌, ◌≤◌, Bool, true, false, cond, not, ◌||◌, T, eqb, ltb, List, [], ◌∷◌, sym, refl, ap, ◌∙◌, subst, inl, inr, zero-le, arith}
 use Rattle.std.proofs.lemmas.Bool.{cond_both, eqb-true}
 use Rattle.layout.specs.Super.{Super}
 use Rattle.store.specs.Event.{Event, Cut}
@@ -9,10 +9,11 @@ use Rattle.store.specs.Store.{Seen, Way, Free, Under, Over, Change, None', is_no
 use Rattle.store.specs.Promise.{can}
 use Rattle.store.specs.Durable.{Deaths, fell}
 use Rattle.store.specs.Keeping.{Columns}
-use Rattle.store.specs.Between.{ticks, Explains}
+use Rattle.store.specs.Between.{ticks, Explains, Standing}
 use Rattle.store.specs.declared.Ask.{Ask}
 use Rattle.store.specs.declared.Ask.TheVariants.{Read, Write, Flush, Size, Add, Replace}
 use Rattle.store.specs.declared.Reply.{Reply}
+use Rattle.store.specs.declared.Store.{Store}
 
 -- ---- no change is ever under way while only reads, writes, flushes and sizes are built
 
@@ -112,6 +113,19 @@ marked (drops r e d) = let v = marked r in record { low = v.low; marks = v.marks
 marked (turns {h = h} r y a) = let v = marked r in record { low = v.low; marks = λ t a w m g e i. let o = younger (h.way t) a w m g e in v.marks t a w m o.0 o.1 i }
 marked (cuts pick c r p q) = record { low = λ i. zero-le; marks = λ t a w m g e i. not_free e }
 
+-- ---- what columns explain, they explain of whatever has the same disks and contents
+
+abbrev like : Seen → (ℕ → ℕ) → (ℕ → Way) → Change → (ℕ → Bool) → Seen
+like h low way change dead = record { content = h.content; count = h.count; low = low; way = way; disks = h.disks; change = change; dead = dead }
+
+module _ {k j : ℕ} {es fs : List Event} {c : Columns} {h : Seen} {low : ℕ → ℕ} {way : ℕ → Way} {change : Change} {dead : ℕ → Bool} where
+  pub explains_like : {n : ℕ} {S : Super} → Explains n k es S c h → 2 * ticks es + k ≤ 2 * ticks fs + j → Run can n fs (like h low way change dead) → Explains n j fs S c (like h low way change dead)
+  explains_like v l r = record { run = r; matches = record { disks = v.matches.disks; content = v.matches.content }; coded = v.coded; idle = v.idle; early = omega (arith, v.early, l) }
+
+  pub stands_like : {s s' : Store} {x : Shelf} → Standing s x k es c h → s'.sectors ≡ s.sectors → s'.superblock ≡ s.superblock → 2 * ticks es + k ≤ 2 * ticks fs + j → Run can x.sectors fs (like h low way change dead) →
+      Standing s' x j fs c (like h low way change dead)
+  stands_like v size super l r = record { lit = v.lit; ready = rw super v.ready; marks = rw super v.marks; same = size ∙ v.same; explains = rw super (explains_like v.explains l r) }
+
 -- ---- deaths
 
 unfoldable pub buried : List ℕ → (ℕ → Bool) → ℕ → Bool
@@ -139,16 +153,10 @@ module _ {k : ℕ} {x y : Shelf} {es fs : List Event} {S : Super} {c : Columns} 
   pub explains_deaths : Explains x.sectors k es S c h → Explains y.sectors k fs S c (mourned w.more h)
   explains_deaths v =
       subst (λ (n : ℕ). Explains n k fs S c (mourned w.more h)) (sym w.size)
-      (record {
-        run = subst (λ (gs : List Event). Run can x.sectors gs (mourned w.more h)) (sym w.tale) (run_fell w.more v.run);
-        matches = record { disks = v.matches.disks; content = v.matches.content };
-        coded = v.coded;
-        idle = v.idle;
-        early = omega (arith, v.early, ticks_deaths w);
-      })
+      (explains_like v (omega (arith, ticks_deaths w)) (subst (λ (gs : List Event). Run can x.sectors gs (mourned w.more h)) (sym w.tale) (run_fell w.more v.run)))
 
 pub explains_later : {n : ℕ} {es : List Event} {S : Super} {c : Columns} {h : Seen} → Explains n 0 es S c h → Explains n 2 es S c h
-explains_later v = record { run = v.run; matches = v.matches; coded = v.coded; idle = v.idle; early = omega (arith, v.early) }
+explains_later v = explains_like v (omega arith) v.run
 
 -- ---- a cut leaves each sector's last content
 

@@ -148,9 +148,3 @@ pub marks_learned : (x : Shelf) (ds : List ℕ) (m : Marks) (missing : Missing) 
 marks_learned x ds m Nothing r v d = v
 marks_learned x ds m (One a) r v d = marks_more x ds m (place a r) v d.1
 marks_learned x ds m (Two a b) r v d = marks_more x ds (with_mark m (place a r)) (place b r) (marks_more x ds m (place a r) v d.0.1) d.1.1
-
-pub marks_went : {n : ℕ} {W : (d s : ℕ) → List ℕ → Type 0} {x y : Shelf} {es fs : List Event} → Went n W x es y fs → (ds : List ℕ) (m : Marks) → MarksTrue x (with_marks ds m) → MarksTrue y (with_marks ds m)
-marks_went w ds m v p l t = dead_stays w (get_or ds p 0) (v p l t)
-
-pub marks_kept : (x : Shelf) {ds es : List ℕ} {m n : Marks} → ds ≡ es → m ≡ n → MarksTrue x (with_marks ds m) → MarksTrue x (with_marks es n)
-marks_kept x {ds} {es} {m} {n} p q v = subst (λ (k : Marks). MarksTrue x (with_marks es k)) q (subst (λ (e : List ℕ). MarksTrue x (with_marks e m)) p v)

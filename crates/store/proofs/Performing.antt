@@ -1,6 +1,6 @@
 -- What a turn does for a tag, against what is seen: a read, a write, a flush, a size, and the power going meanwhile.
 -- Assumes nothing.
-use Rattle.std.proofs.Common.{◌≡◌, ℕ, ◌+◌, ◌-◌, ◌*◌, ◌/◌, ◌<◌, ◌≤◌, true, false, cond, ◌&&◌, T, eqb, List, [], ◌∷◌, length, take, drop, Some, None, Option, sym, refl, ap, ◌∙◌, subst, inl, inr, arith, length-drop, length-take-le}
+use Rattle.std.proofs.Common.{◌≡◌, ℕ, ◌+◌, ◌-◌, ◌*◌, ◌/◌, ◌<◌, ◌≤◌, true, false, T, eqb, List, [], ◌∷◌, length, take, drop, Some, None, Option, sym, refl, ap, ◌∙◌, subst, inl, inr, arith, length-drop, length-take-le}
 use lib.Dec.{eqb_refl}
 use borrow.Rule.Slice.PartMut.{put_mid}
 use Rattle.std.proofs.lemmas.Slice.{between_is, take-put_mid_below}
@@ -13,18 +13,20 @@ use Rattle.store.specs.Event.{Event}
 use Rattle.store.specs.Shelf.{Shelf}
 use Rattle.store.specs.Store.{Seen, Way, Free, Under, Over, Run, reads, writes, flushes, sizes, set_way, new_content, lasting, size_of, starts_with, core}
 use Rattle.store.specs.Promise.{can}
-use Rattle.store.specs.Durable.{Deaths}
+use Rattle.store.specs.Durable.{Deaths, Went, Nowhere}
 use Rattle.store.specs.Keeping.{Columns, Sound, Ready}
 use Rattle.store.specs.Writes.{MarksTrue, journalling}
-use Rattle.store.specs.Sectors.{sector_of, Rewrites, Saved, Unsaved}
+use Rattle.store.specs.Sectors.{sector_of, Rewrites, Fetched, Saved, Unsaved}
 use Rattle.store.specs.Tags.{at, Entry, Reaches}
-use Rattle.store.specs.Between.{Explains, Lost, Serving, Performed}
+use Rattle.store.specs.Between.{Explains, Standing, Lost, Serving, Performed}
 use Rattle.store.specs.declared.Ask.{Ask}
+use Rattle.store.specs.declared.Reply.{Reply}
+use Rattle.store.specs.declared.tags.Tag.{Tag}
 use Rattle.store.specs.declared.Ask.TheVariants.{Read, Write, Flush, Size}
 use Rattle.store.specs.declared.Reply.TheVariants.{Done, Bytes, Many}
 use Rattle.store.specs.declared.Store.{Store}
-use Rattle.store.proofs.Standing.{sound_twice}
-use Rattle.store.proofs.Histories.{mourned, explains_deaths, explains_later}
+use Rattle.store.proofs.Standing.{sound_twice, ready_asked}
+use Rattle.store.proofs.Histories.{mourned, explains_like, stands_like, explains_deaths, explains_later}
 use Rattle.store.proofs.Opening.{left_lost}
 use Rattle.store.proofs.Turning.{both, young_way}
 
@@ -39,20 +41,53 @@ pub record Asks (a : Ask) (w : List ℕ) (n : ℕ) (v : Way) : Type 0 where
   pub g : ℕ
   pub is : v ≡ Under a w m g
   pub built : T (core a)
+  pub fits : Reaches a n
 
 some_same : (a b : Ask) → Some a ≡ Some b → a ≡ b
 some_same a b e = cc
 
-pub asks_of : (o : Option Ask) (a : Ask) (w : List ℕ) (n : ℕ) (v : Way) → o ≡ Some a → Entry o w n v → Asks a w n v
+asks_of : (o : Option Ask) (a : Ask) (w : List ℕ) (n : ℕ) (v : Way) → o ≡ Some a → Entry o w n v → Asks a w n v
 asks_of o a w n Free p e = absurd (let z : ◌≡◌ {A = Option Ask} None (Some a) = sym e ∙ p in let y : ◌≡◌ {A = ℕ} 0 1 = cc in omega arith)
 asks_of o a w n (Under b u m g) p e =
-    let same : b ≡ a = some_same b a (sym e.0 ∙ p) in
-    record { m = m; g = g; is = ap (λ (c : Ask). Under c u m g) same ∙ ap (λ (z : List ℕ). Under a z m g) e.1; built = subst (λ (c : Ask). T (core c)) same e.2 }
+    subst (λ (c : Ask). Asks c w n (Under b u m g)) (some_same b a (sym e.0 ∙ p)) (record { m = m; g = g; is = ap (λ (z : List ℕ). Under b z m g) e.1; built = e.2; fits = e.3 })
 asks_of o a w n (Over b r u g) p e = absurd e
 
 -- the store with another superblock in memory
 abbrev pub under : Store → Superblock → Store
 under s b = record { sectors = s.sectors; superblock = b; tags = s.tags }
+
+module _ {s : Store} {room : List ℕ} {x : Shelf} {es : List Event} (v : Serving s room x es) where
+  -- how many sectors there are
+  pub size_is : size_of x.sectors v.h ≡ (length s.superblock.members.list - 2) * (s.sectors - 64)
+  size_is = ap (λ (ds : List ℕ). (length ds - 2) * (x.sectors - 64)) v.stands.explains.matches.disks ∙ ap (λ (n : ℕ). (length s.superblock.members.list - 2) * (n - 64)) (sym v.stands.same)
+
+  pub asks_for : {a b : Ask} (t : Tag) → at s.tags.asked t.number ≡ Some a → a ≡ b → Asks b (column t.number room) (size_of x.sectors v.h) (v.h.way t.number)
+  asks_for t e i = asks_of _ _ _ _ (v.h.way t.number) (e ∙ ap Some i) (v.table.entries t.number t.eight)
+
+  -- a sector that is asked for is there
+  pub within : {a : Ask} {w : List ℕ} {u : Way} → Asks a w (size_of x.sectors v.h) u → Reaches a ((length s.superblock.members.list - 2) * (s.sectors - 64))
+  within {a} k = subst (λ (n : ℕ). Reaches a n) size_is k.fits
+
+  module _ {t : ℕ} (l : t < 8) {a : Ask} {w : List ℕ} (k : Asks a w (size_of x.sectors v.h) (v.h.way t)) where
+    -- it is done: that was seen by then, and the tag is to be told
+    abbrev over : Reply → List ℕ → Seen → Seen
+    over r back h = set_way t (Over a r back k.g) h
+
+    performed : (r : Reply) (back words : List ℕ) {s' : Store} {y : Shelf} {fs : List Event} {c : Columns} (h : Seen) → h.way ≡ v.h.way → h.disks ≡ v.h.disks → Standing s' y 2 fs c (over r back h) → T (starts_with back words) → Performed a r t words s' v.h y fs
+    performed r back words {c = c} h ways disks stands starts =
+        record {
+          c = c;
+          h' = over r back h;
+          stands = stands;
+          back = back;
+          age = k.g;
+          young = young_way v.table t l k.is;
+          built = k.built;
+          way = cond-true (eqb t t) _ _ (eq-eqb t t refl);
+          starts = starts;
+          others = λ u ne. cond-false (eqb u t) _ _ (ne_eqb u t ne) ∙ ap (λ (f : ℕ → Way). f u) ways;
+          disks = disks;
+        }
 
 -- ---- the same, with the disks that died since
 module _ {s : Store} {room : List ℕ} {x y : Shelf} {es fs : List Event} (v : Serving s room x es) (died : Deaths x es y fs) where
@@ -65,183 +100,90 @@ module _ {s : Store} {room : List ℕ} {x y : Shelf} {es fs : List Event} (v : S
   explained : Explains y.sectors 0 fs S v.c since
   explained = explains_deaths died v.stands.explains
 
-  pub lost_sound : y.on ≡ false → Sound y S v.c → Lost y fs
+  stands_under : {N : Super} {c : Columns} {h : Seen} (b : Superblock) → says b ≡ N → y.on ≡ true → Ready y N c → MarksTrue y b.members → Explains y.sectors 2 fs N c h → Standing (under s b) y 2 fs c h
+  stands_under b e lit ready marks explains = record { lit = lit; ready = rw e ready; marks = marks; same = v.stands.same ∙ sym died.size; explains = rw e explains }
+
+  lost_sound : y.on ≡ false → Sound y S v.c → Lost y fs
   lost_sound off k =
       record { off = off; S = S; c = v.c; h = since; S' = S; c' = v.c; h' = since; torn = sound_twice y S v.c k; one = explains_later explained; two = explains_later explained }
 
-  pub performed_read : (b : Superblock) (t i : ℕ) → t < 8 → (into w : List ℕ) (m : ℕ → ℕ) (g : ℕ) → v.h.way t ≡ Under (Read i) w m g → y.on ≡ true → Ready y S v.c → says b ≡ S →
-      MarksTrue y b.members → into ≡ sector_of x.sectors i v.c → Performed (Read i) Bytes t into (under s b) v.h y fs
-  unfolding core
-  performed_read b t i l into w m g way lit ready same marks got =
-      let seen = v.h.content i (v.h.count i) in
-      record {
-        c = v.c;
-        h' = set_way t (Over (Read i) Bytes seen g) since;
-        stands = record {
-          lit = lit;
-          ready = subst (λ (Q : Super). Ready y Q v.c) (sym same) ready;
-          marks = marks;
-          same = v.stands.same ∙ sym died.size;
-          explains = subst (λ (Q : Super). Explains y.sectors 2 fs Q v.c (set_way t (Over (Read i) Bytes seen g) since)) (sym same)
-              (record {
-                run = reads t explained.run way;
-                matches = record { disks = explained.matches.disks; content = explained.matches.content };
-                coded = explained.coded;
-                idle = explained.idle;
-                early = omega (arith, explained.early);
-              });
-        };
-        back = seen;
-        age = g;
-        young = young_way v.table t l way;
-        built = tt;
-        way = cond-true (eqb t t) _ _ (eq-eqb t t refl);
-        starts = subst (λ (q : List ℕ). T (starts_with seen q)) (v.stands.explains.matches.content i ∙ sym got) (starts_self seen);
-        others = λ u ne. cond-false (eqb u t) _ _ (ne_eqb u t ne);
-        disks = refl;
-      }
+  module _ {t : ℕ} (l : t < 8) {i : ℕ} {w : List ℕ} (k : Asks (Write i) w (size_of x.sectors v.h) (v.h.way t)) where
+    abbrev wrote : Seen
+    wrote = over v l k Done [] (new_content i w since)
 
-  -- ---- the write is done
-
-  abbrev wrote : (t i : ℕ) (w : List ℕ) (g : ℕ) → Seen
-  wrote t i w g = set_way t (Over (Write i) Done [] g) (new_content i w since)
-
-  wrote_content : (i : ℕ) (w : List ℕ) (c' : Columns) {k : ℕ} → Rewrites y.sectors i w k v.c c' → (j : ℕ) →
-      cond (eqb j i && eqb (cond (eqb j i) (v.h.count i + 1) (v.h.count j)) (v.h.count i + 1)) w (v.h.content j (cond (eqb j i) (v.h.count i + 1) (v.h.count j))) ≡ sector_of y.sectors j c'
-  wrote_content i w c' o j =
-      elim (cases_eq j i) [
-        | inl p ↦
-            let e = eq-eqb j i p in
-            let f = eq-eqb (v.h.count i + 1) (v.h.count i + 1) refl in
-            let this : sector_of y.sectors j c' ≡ w = ap (λ (z : ℕ). sector_of y.sectors z c') p ∙ o.this in
-            simp (e, f) (sym this)
-        | inr p ↦
-            let e = ne_eqb j i p in
-            let this : sector_of y.sectors j c' ≡ v.h.content j (v.h.count j) = o.others j p ∙ sym (explained.matches.content j) in
-            simp e (sym this)
-      ]
-
-  wrote_explains : (t i : ℕ) (w : List ℕ) (m : ℕ → ℕ) (g r : ℕ) (c' : Columns) → v.h.way t ≡ Under (Write i) w m g → Rewrites y.sectors i w (length S.members) v.c c' → Explains y.sectors 2 fs (journalling S r) c' (wrote t i w g)
-  wrote_explains t i w m g r c' way o =
-      record {
-        run = writes t explained.run way;
-        matches = record { disks = explained.matches.disks; content = wrote_content i w c' o };
-        coded = o.code;
-        idle = explained.idle;
-        early = omega (arith, explained.early);
-      }
-
-  module _ (t i : ℕ) (l : t < 8) (words w : List ℕ) (m : ℕ → ℕ) (g : ℕ) (way : v.h.way t ≡ Under (Write i) w m g) where
-    pub performed_write : (b : Superblock) → says b ≡ journalling S (stripe_of (y.sectors - 64) i) → MarksTrue y b.members → Saved y.sectors i w S x y →
-        Performed (Write i) Done t words (under s b) v.h y fs
-    unfolding starts_with core
-    performed_write b same marks saved =
-        let put = saved.ready v.c v.stands.ready v.stands.explains.coded in
-        let N : Super = journalling S (stripe_of (y.sectors - 64) i) in
-        record {
-          c = put.0;
-          h' = wrote t i w g;
-          stands = record {
-            lit = saved.lit;
-            ready = subst (λ (Q : Super). Ready y Q put.0) (sym same) put.1.0;
-            marks = marks;
-            same = v.stands.same ∙ sym died.size;
-            explains = subst (λ (Q : Super). Explains y.sectors 2 fs Q put.0 (wrote t i w g)) (sym same) (wrote_explains t i w m g (stripe_of (y.sectors - 64) i) put.0 way put.1.1);
-          };
-          back = [];
-          age = g;
-          young = young_way v.table t l way;
-          built = tt;
-          way = cond-true (eqb t t) _ _ (eq-eqb t t refl);
-          starts = tt;
-          others = λ u ne. cond-false (eqb u t) _ _ (ne_eqb u t ne);
-          disks = refl;
-        }
-
-    pub lost_write : Unsaved y.sectors i w S x y → Lost y fs
-    lost_write gone =
-        elim (gone.left v.c v.stands.ready v.stands.explains.coded) [
-          | inl k ↦ lost_sound gone.off k
-          | inr k ↦ left_lost gone.off (explains_later explained) (wrote_explains t i w m g (stripe_of (y.sectors - 64) i) k.0 way k.1.1) k.1.0
+    wrote_content : (c' : Columns) {n : ℕ} → Rewrites y.sectors i w n v.c c' → (j : ℕ) → wrote.content j (wrote.count j) ≡ sector_of y.sectors j c'
+    wrote_content c' o j =
+        elim (cases_eq j i) [
+          | inl p ↦
+              let e = eq-eqb j i p in
+              let f = eq-eqb (v.h.count i + 1) (v.h.count i + 1) refl in
+              let this : sector_of y.sectors j c' ≡ w = ap (λ (z : ℕ). sector_of y.sectors z c') p ∙ o.this in
+              simp (e, f) (sym this)
+          | inr p ↦
+              let e = ne_eqb j i p in
+              let this : sector_of y.sectors j c' ≡ v.h.content j (v.h.count j) = o.others j p ∙ sym (explained.matches.content j) in
+              simp e (sym this)
         ]
 
+    wrote_explains : (r : ℕ) (c' : Columns) → Rewrites y.sectors i w (length S.members) v.c c' → Explains y.sectors 2 fs (journalling S r) c' wrote
+    wrote_explains r c' o =
+        record {
+          run = writes t explained.run k.is;
+          matches = record { disks = explained.matches.disks; content = wrote_content c' o };
+          coded = o.code;
+          idle = explained.idle;
+          early = omega (arith, explained.early);
+        }
+
+    size : s.sectors ≡ y.sectors
+    size = v.stands.same ∙ sym died.size
+
+    pub performed_write : (b : Superblock) (words : List ℕ) → says b ≡ journalling S (stripe_of (s.sectors - 64) i) → MarksTrue y b.members → Saved s.sectors i w S x y → Performed (Write i) Done t words (under s b) v.h y fs
+    unfolding starts_with
+    performed_write b words same marks saved =
+        let done : Saved y.sectors i w S x y = subst (λ (n : ℕ). Saved n i w S x y) size saved in
+        let put = done.ready v.c v.stands.ready v.stands.explains.coded in
+        performed v l k Done [] words (new_content i w since) refl refl (stands_under b (rw (← size) same) done.lit put.1.0 marks (wrote_explains _ put.0 put.1.1)) tt
+
+    pub lost_write : Unsaved s.sectors i w S x y → Lost y fs
+    lost_write unsaved =
+        let gone : Unsaved y.sectors i w S x y = subst (λ (n : ℕ). Unsaved n i w S x y) size unsaved in
+        elim (gone.left v.c v.stands.ready v.stands.explains.coded) [
+          | inl k ↦ lost_sound gone.off k
+          | inr k ↦ left_lost gone.off (explains_later explained) (wrote_explains _ k.0 k.1.1) k.1.0
+        ]
+
+-- ---- a read writes nothing
+module _ {s : Store} {room : List ℕ} {x y : Shelf} {es fs : List Event} (v : Serving s room x es) {n : ℕ} (went : Went n Nowhere x es y fs) where
+  ready : Ready y (says s.superblock) v.c
+  ready = ready_asked went (says s.superblock) v.c v.stands.ready
+
+  pub performed_read : {t : ℕ} (l : t < 8) {i : ℕ} {w : List ℕ} (k : Asks (Read i) w (size_of x.sectors v.h) (v.h.way t)) (b : Superblock) (into : List ℕ) → says b ≡ says s.superblock → MarksTrue y b.members →
+      Fetched s.sectors i into (says s.superblock) x y → Performed (Read i) Bytes t into (under s b) v.h y fs
+  performed_read {t} l {i} k b into same marks got =
+      let seen = v.h.content i (v.h.count i) in
+      let words : into ≡ sector_of x.sectors i v.c = rw (← v.stands.same) (got.words_are v.c v.stands.ready v.stands.explains.coded) in
+      let ex = explained v went.deaths in
+      performed v l k Bytes seen into (since v went.deaths) refl refl (stands_under v went.deaths b same (got.lit v.stands.lit) ready marks (explains_like ex (omega arith) (reads t ex.run k.is)))
+      (subst (λ (q : List ℕ). T (starts_with seen q)) (v.stands.explains.matches.content i ∙ sym words) (starts_self seen))
+
+  pub lost_read : y.on ≡ false → Lost y fs
+  lost_read off = lost_sound v went.deaths off ready.sound
+
 -- ---- what asks no disk
-module _ {s : Store} {room : List ℕ} {x : Shelf} {es : List Event} (v : Serving s room x es) (t : ℕ) (l : t < 8) (words w : List ℕ) (m : ℕ → ℕ) (g : ℕ) where
-  pub performed_flush : v.h.way t ≡ Under Flush w m g → Performed Flush Done t words s v.h x es
-  unfolding starts_with core
-  performed_flush way =
-      let ex = v.stands.explains in
-      record {
-        c = v.c;
-        h' = set_way t (Over Flush Done [] g) (lasting m v.h);
-        stands = record {
-          lit = v.stands.lit;
-          ready = v.stands.ready;
-          marks = v.stands.marks;
-          same = v.stands.same;
-          explains = record { run = flushes t ex.run way; matches = record { disks = ex.matches.disks; content = ex.matches.content }; coded = ex.coded; idle = ex.idle; early = omega (arith, ex.early) };
-        };
-        back = [];
-        age = g;
-        young = young_way v.table t l way;
-        built = tt;
-        way = cond-true (eqb t t) _ _ (eq-eqb t t refl);
-        starts = tt;
-        others = λ u ne. cond-false (eqb u t) _ _ (ne_eqb u t ne);
-        disks = refl;
-      }
+module _ {s : Store} {room : List ℕ} {x : Shelf} {es : List Event} (v : Serving s room x es) {t : ℕ} (l : t < 8) (words : List ℕ) {w : List ℕ} where
+  pub performed_flush : Asks Flush w (size_of x.sectors v.h) (v.h.way t) → Performed Flush Done t words s v.h x es
+  unfolding starts_with
+  performed_flush k = performed v l k Done [] words (lasting k.m v.h) refl refl (stands_like v.stands refl refl (omega arith) (flushes t v.stands.explains.run k.is)) tt
 
-  pub performed_size : (k : ℕ) → k ≡ size_of x.sectors v.h → v.h.way t ≡ Under Size w m g → Performed Size (Many k) t words s v.h x es
-  unfolding starts_with core
-  performed_size k e way =
-      let ex = v.stands.explains in
-      record {
-        c = v.c;
-        h' = set_way t (Over Size (Many k) [] g) v.h;
-        stands = record {
-          lit = v.stands.lit;
-          ready = v.stands.ready;
-          marks = v.stands.marks;
-          same = v.stands.same;
-          explains = record {
-            run = subst (λ (q : ℕ). Run can x.sectors es (set_way t (Over Size (Many q) [] g) v.h)) (sym e) (sizes t ex.run way);
-            matches = record { disks = ex.matches.disks; content = ex.matches.content };
-            coded = ex.coded;
-            idle = ex.idle;
-            early = omega (arith, ex.early);
-          };
-        };
-        back = [];
-        age = g;
-        young = young_way v.table t l way;
-        built = tt;
-        way = cond-true (eqb t t) _ _ (eq-eqb t t refl);
-        starts = tt;
-        others = λ u ne. cond-false (eqb u t) _ _ (ne_eqb u t ne);
-        disks = refl;
-      }
-
--- ---- a sector that is asked for is there
-
-reaches_of : (o : Option Ask) (a : Ask) (w : List ℕ) (n : ℕ) (v : Way) → o ≡ Some a → Entry o w n v → Reaches a n
-reaches_of o a w n Free p e = absurd (let z : ◌≡◌ {A = Option Ask} None (Some a) = sym e ∙ p in let y : ◌≡◌ {A = ℕ} 0 1 = cc in omega arith)
-reaches_of o a w n (Under b u m g) p e = subst (λ (c : Ask). Reaches c n) (some_same b a (sym e.0 ∙ p)) e.3
-reaches_of o a w n (Over b r u g) p e = absurd e
-
-module _ {s : Store} {room : List ℕ} {x : Shelf} {es : List Event} (v : Serving s room x es) where
-  -- how many sectors there are
-  pub size_is : size_of x.sectors v.h ≡ (length s.superblock.members.list - 2) * (s.sectors - 64)
-  size_is = ap (λ (ds : List ℕ). (length ds - 2) * (x.sectors - 64)) v.stands.explains.matches.disks ∙ ap (λ (n : ℕ). (length s.superblock.members.list - 2) * (n - 64)) (sym v.stands.same)
-
-  module _ (t : ℕ) (l : t < 8) (a : Ask) (e : at s.tags.asked t ≡ Some a) where
-    pub asks_for : Asks a (column t room) (size_of x.sectors v.h) (v.h.way t)
-    asks_for = asks_of _ a _ _ (v.h.way t) e (v.table.entries t l)
-
-    pub within : Reaches a ((length s.superblock.members.list - 2) * (s.sectors - 64))
-    within = subst (λ (n : ℕ). Reaches a n) size_is (reaches_of _ a _ _ (v.h.way t) e (v.table.entries t l))
+  pub performed_size : (k : ℕ) → k ≡ (length s.superblock.members.list - 2) * (s.sectors - 64) → Asks Size w (size_of x.sectors v.h) (v.h.way t) → Performed Size (Many k) t words s v.h x es
+  unfolding starts_with
+  performed_size k e q =
+      let run = subst (λ (z : ℕ). Run can x.sectors es (set_way t (Over Size (Many z) [] q.g) v.h)) (size_is v ∙ sym e) (sizes t v.stands.explains.run q.is) in
+      performed v l q (Many k) [] words v.h refl refl (stands_like v.stands refl refl (omega arith) run) tt
 
 -- the words of the tags lie below 512, and what is behind them does not touch them
-pub tags_kept : (m : ℕ) (room ys : List ℕ) → 512 ≤ length room → (t : ℕ) → t < 8 → column t (put_mid 512 m room ys) ≡ column t room
+pub tags_kept : (m : ℕ) (room ys : List ℕ) → length room ≡ 65536 → (t : ℕ) → t < 8 → column t (put_mid 512 m room ys) ≡ column t room
 tags_kept m room ys h t l =
     let j : (64 * t + 64) - 64 * t ≡ 64 = omega arith in
     let below = take-put_mid_below 512 m room ys (64 * t + 64) (omega arith) (omega arith) in

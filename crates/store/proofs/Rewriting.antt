@@ -2,7 +2,7 @@
 -- Assumes nothing.
 use Rattle.std.proofs.Common.{◌≡◌, ℕ, zero, suc, ◌+◌, ◌-◌, ◌*◌, ◌<◌, ◌≤◌, Bool, true, false, cond, T, eqb, ◌≢◌, ◌⊎◌, List, length, get_or, set, replicate, sym, refl, ap, ◌∙◌, subst, inl, inr, arith, get_or-set_other, get_or-set_same}
 use Rattle.std.proofs.lemmas.Bool.{cases_Bool, cases_eq, eq-eqb, ne_eqb, cond-true, cond-false, cond_both}
-use Rattle.field.specs.Stripe.{held, Codeword, Lies, Put}
+use Rattle.field.specs.Stripe.{held, Codeword, Put}
 use Rattle.field.specs.declared.missing.Missing.{Missing}
 use Rattle.field.proofs.Slices.{held_is}
 use Rattle.layout.specs.Places.{place, column_of, stripe_of}
@@ -29,21 +29,28 @@ pub marks_deaths : {x y : Shelf} {es fs : List Event} → Deaths x es y fs → (
 marks_deaths {y = y} w ds m v p l t =
     elim (cases_Bool (y.alive (get_or ds p 0))) [ inl q ↦ absurd (subst T (v p l t) (w.falls (get_or ds p 0) (true-T q))) | inr q ↦ q ]
 
--- where a sector is
-module _ (n k s r j : ℕ) (some : 64 < n) (size : s < (k - 2) * (n - 64)) (er : r ≡ stripe_of (n - 64) s) (ej : j ≡ column_of (n - 64) s) where
+-- sector s of a store of k disks, each of n sectors, is column 2 + j of stripe r
+pub record Home (n k s r j : ℕ) : Type 0 where
+  pub size : s < (k - 2) * (n - 64)
+  pub lies : (j ≡ column_of (n - 64) s) × (r ≡ stripe_of (n - 64) s)
+
+module _ {n k s r j : ℕ} (at : Home n k s r j) where
+  pub some : 64 < n
+  some = grind (arith, at.size)
+
   pub at_stripe : 64 + r < n
-  at_stripe = let q = (home_within (n - 64) (omega arith) k s size).1 in omega (arith, q)
+  at_stripe = let q = (home_within (n - 64) (omega (arith, some)) k s at.size).1 in omega (arith, q)
 
   pub at_column : 2 + j < k
-  at_column = let q = (home_within (n - 64) (omega arith) k s size).0 in omega (arith, q)
+  at_column = let q = (home_within (n - 64) (omega (arith, some)) k s at.size).0 in omega (arith, q)
 
   pub is_sector : (c : Columns) → c r (2 + j) ≡ sector_of n s c
-  is_sector c = ap (λ (z : ℕ). c z (2 + j)) er ∙ ap (λ (z : ℕ). c (stripe_of (n - 64) s) (2 + z)) ej
+  is_sector c = ap (λ (z : ℕ). c z (2 + j)) at.lies.1 ∙ ap (λ (z : ℕ). c (stripe_of (n - 64) s) (2 + z)) at.lies.0
 
 -- ---- reading
 
-pub fetched : (S : Super) (n s r j : ℕ) {m : Missing} {words : List ℕ} {x y : Shelf} → 64 + r < x.sectors → ((c : Columns) → c r (2 + j) ≡ sector_of n s c) → Read m S.members (64 + r) r (2 + j) words x y → Fetched n s words S x y
-fetched S n s r j l is p = record { lit = p.lit; words_are = λ c k w. p.column_is (c r) (w r) (shown_ready r k l) ∙ is c }
+pub fetched : {S : Super} {n s r j : ℕ} {m : Missing} {words : List ℕ} {x y : Shelf} → Home n (length S.members) s r j → n ≡ x.sectors → Read m S.members (64 + r) r (2 + j) words x y → Fetched n s words S x y
+fetched {r = r} at same p = record { lit = p.lit; words_are = λ c k w. p.column_is (c r) (w r) (shown_ready r k (omega (arith, at_stripe at, same))) ∙ is_sector at c }
 
 -- ---- which columns are touched
 
@@ -94,88 +101,90 @@ changes r h c =
       this = λ i. ap (λ (f : ℕ → List ℕ). f i) (cond-true (eqb r r) h (c r) (eq-eqb r r refl));
     }
 
-module _ (n k s r j : ℕ) (some : 64 < n) (size : s < (k - 2) * (n - 64)) (er : r ≡ stripe_of (n - 64) s) (ej : j ≡ column_of (n - 64) s)
-    (t u : List (List ℕ)) (words : List ℕ) (c : Columns) (long : length t ≤ k) (coded : Coded k c) (lies : Lies k (held t) (c r)) (put : Put k j words (held t) (held u)) where
-  -- what was loaded is the stripe
-  was : (i : ℕ) → held t i ≡ c r i
-  was i = held_is k t (c r) long (coded r) lies i
+-- Stripe r was loaded as t from x, and is u with the words of sector s in it; the disks are y then.
+pub record Taken (S : Super) (n s r j : ℕ) (m : Missing) (t u : List (List ℕ)) (words : List ℕ) (x : Shelf) (es : List Event) (y : Shelf) (fs : List Event) : Type 0 where
+  pub home : Home n (length S.members) s r j
+  pub same : n ≡ x.sectors
+  pub long : length t ≡ length S.members
+  pub went : Went (length S.members) Nowhere x es y fs
+  pub loaded : Loaded m S.members (64 + r) r t x y
+  pub put : Put (length t) j words (held t) (held u)
 
-  pub unchanged : (i : ℕ) → 2 ≤ i → i ≢ 2 + j → instead r (held u) c r i ≡ c r i
-  unchanged i two other = (changes r (held u) c).this i ∙ (put.others i two other ∙ was i)
-
-  elsewhere : (i : ℕ) → i ≢ s → sector_of n i (instead r (held u) c) ≡ sector_of n i c
-  elsewhere i ne =
-      let q = stripe_of (n - 64) i in
-      let p = 2 + column_of (n - 64) i in
-      elim (cases_eq q r) [
-        | inl e ↦
-            let apart : p ≢ 2 + j = λ z.
-            ne (home_apart (n - 64) (omega arith) i s (e ∙ er) (ap (λ (a : ℕ). place p a) (e ∙ er) ∙ ap (λ (a : ℕ). place a (stripe_of (n - 64) s)) (z ∙ ap (λ (a : ℕ). 2 + a) ej))) in
-            ap (λ (a : ℕ). instead r (held u) c a p) e ∙ (unchanged p (omega arith) apart ∙ ap (λ (a : ℕ). c a p) (sym e))
-        | inr o ↦ (changes r (held u) c).others q p o
-      ]
-
-  pub rewrites : Rewrites n s words k c (instead r (held u) c)
-  rewrites =
-      record {
-        code = λ a. cond_both (eqb a r) (held u) (c a) (λ (f : ℕ → List ℕ). Codeword k f) (λ _. put.codeword) (λ _. coded a);
-        this = sym (is_sector n k s r j some size er ej (instead r (held u) c)) ∙ ((changes r (held u) c).this (2 + j) ∙ put.here);
-        others = elsewhere;
-      }
-
--- from the load to the end
-module _ (S : Super) (n s r j : ℕ) (t u : List (List ℕ)) (words : List ℕ) {m : Missing} {x y : Shelf} {es fs : List Event} (some : 64 < n) (size : s < (length S.members - 2) * (n - 64)) (er : r ≡ stripe_of (n - 64) s) (ej : j ≡ column_of (n - 64) s)
-    (few : length S.members ≤ 12) (same : n ≡ x.sectors) (long : length t ≤ length S.members) (w : Went (length S.members) Nowhere x es y fs) (p : Loaded m S.members (64 + r) r t x y) (put : Put (length S.members) j words (held t) (held u)) where
+module _ {S : Super} {n s r j : ℕ} {m : Missing} {t u : List (List ℕ)} {words : List ℕ} {x y : Shelf} {es fs : List Event} (v : Taken S n s r j m t u words x es y fs) where
   abbrev k : ℕ
   k = length S.members
 
+  put_all : Put k j words (held t) (held u)
+  put_all = subst (λ (i : ℕ). Put i j words (held t) (held u)) v.long v.put
+
+  -- the columns, with the stripe that was taken
   abbrev pub next : Columns → Columns
   next c = instead r (held u) c
 
-  inside : 64 + r < x.sectors
-  inside = omega (arith, at_stripe n k s r j some size er ej, same)
+  module _ (c : Columns) (a : Ready x S c) (b : Coded k c) where
+    -- what was loaded is the stripe
+    was : (i : ℕ) → held t i ≡ c r i
+    was i = held_is k t (c r) (omega (arith, v.long)) (b r) (v.loaded.whole (c r) (b r) (shown_ready r a (omega (arith, at_stripe v.home, v.same)))) i
 
-  pub rewritten : (c : Columns) → Ready x S c → Coded k c → Rewrites n s words k c (next c)
-  rewritten c a b = rewrites n k s r j some size er ej t u words c long b (p.whole (c r) (b r) (shown_ready r a inside)) put
+    unchanged : (i : ℕ) → 2 ≤ i → i ≢ 2 + j → next c r i ≡ c r i
+    unchanged i two other = (changes r (held u) c).this i ∙ (put_all.others i two other ∙ was i)
 
-  rest_same : (c : Columns) → Ready x S c → Coded k c → (i : ℕ) → chosen (touching j) i ≡ false → next c r i ≡ c r i
-  rest_same c a b i o =
-      let q = untouched j i (omega (arith, at_column n k s r j some size er ej, few)) o in
-      unchanged n k s r j some size er ej t u words c long b (p.whole (c r) (b r) (shown_ready r a inside)) put i q.0 q.1
+    elsewhere : (i : ℕ) → i ≢ s → sector_of n i (next c) ≡ sector_of n i c
+    elsewhere i ne =
+        let q = stripe_of (n - 64) i in
+        let p = 2 + column_of (n - 64) i in
+        elim (cases_eq q r) [
+          | inl e ↦
+              let apart : p ≢ 2 + j = λ z.
+              ne (home_apart (n - 64) (omega (arith, some v.home)) i s (e ∙ v.home.lies.1) (ap (λ (a : ℕ). place p a) (e ∙ v.home.lies.1) ∙ ap (λ (a : ℕ). place a (stripe_of (n - 64) s)) (z ∙ ap (λ (a : ℕ). 2 + a) v.home.lies.0))) in
+              ap (λ (a : ℕ). next c a p) e ∙ (unchanged p (omega arith) apart ∙ ap (λ (a : ℕ). c a p) (sym e))
+          | inr o ↦ (changes r (held u) c).others q p o
+        ]
+
+    rewrites : Rewrites n s words k c (next c)
+    rewrites =
+        record {
+          code = λ a. cond_both (eqb a r) (held u) (c a) (λ (f : ℕ → List ℕ). Codeword k f) (λ _. put_all.codeword) (λ _. b a);
+          this = sym (is_sector v.home (next c)) ∙ ((changes r (held u) c).this (2 + j) ∙ put_all.here);
+          others = elsewhere;
+        }
+
+    rest_same : (i : ℕ) → chosen (touching j) i ≡ false → next c r i ≡ c r i
+    rest_same i o = let q = untouched j i (omega (arith, at_column v.home, a.sound.kept.proper.roster.most)) o in unchanged i q.0 q.1
 
   abbrev stripe_is : journalling S r ≡ journalling S (stripe_of (n - 64) s)
-  stripe_is = ap (λ (z : ℕ). journalling S z) er
+  stripe_is = ap (λ (z : ℕ). journalling S z) v.home.lies.1
 
   pub unsaved_journal : {z : Shelf} → Unjournalled S r (held u) y z → Unsaved n s words S x z
   unsaved_journal {z} q =
       record {
         off = q.off;
         left = λ c a b.
-            inr (next c, (subst (λ (Q : Super). Left z S c Q (next c)) stripe_is (q.left c (next c) (ready_asked w S c a) (changes r (held u) c)), rewritten c a b));
+            inr (next c, (subst (λ (Q : Super). Left z S c Q (next c)) stripe_is (q.left c (next c) (ready_asked v.went S c a) (changes r (held u) c)), rewrites c a b));
       }
 
-  module _ {z : Shelf} (q : Journalled S r (held u) y z) (S' : Super) (e : S' ≡ journalling S r) where
+  module _ {z : Shelf} {S' : Super} (e : S' ≡ journalling S r) (q : Journalled S r (held u) y z) where
     pub sound_journalled : (c : Columns) → Ready x S c → Sound z S' (next c)
-    sound_journalled c a = subst (λ (Q : Super). Sound z Q (next c)) (sym e) (q.sound c (next c) (ready_asked w S c a) (changes r (held u) c))
+    sound_journalled c a = subst (λ (Q : Super). Sound z Q (next c)) (sym e) (q.sound c (next c) (ready_asked v.went S c a) (changes r (held u) c))
 
-    pub unsaved_place : {v : Shelf} → Unplaced S' z v → Unsaved n s words S x v
-    unsaved_place {v} o =
+    pub unsaved_place : {o : Shelf} → Unplaced S' z o → Unsaved n s words S x o
+    unsaved_place {o} p =
         record {
-          off = o.off;
+          off = p.off;
           left = λ c a b.
-              inr (next c, (inr (inr (subst (λ (Q : Super). Sound v Q (next c)) (e ∙ stripe_is) (o.sound (next c) (sound_journalled c a)))), rewritten c a b));
+              inr (next c, (inr (inr (subst (λ (Q : Super). Sound o Q (next c)) (e ∙ stripe_is) (p.sound (next c) (sound_journalled c a)))), rewrites c a b));
         }
 
-    pub saved_place : {v : Shelf} → Placing (chosen (touching j)) S' r (held u) z v → Saved n s words S x v
-    saved_place {v} o =
+    pub saved_place : {o : Shelf} → Placing (chosen (touching j)) S' r (held u) z o → Saved n s words S x o
+    saved_place {o} p =
         record {
-          lit = o.lit q.lit;
+          lit = p.lit q.lit;
           ready = λ c a b. (
             next c,
             (
-              subst (λ (Q : Super). Ready v Q (next c)) (e ∙ stripe_is)
-                  (o.ready c (next c) (sound_journalled c a) (subst (λ (Q : Super). InPlace z Q c) (sym e) (q.places c (ready_asked w S c a))) (changes r (held u) c).this (rest_same c a b)),
-              rewritten c a b,
+              subst (λ (Q : Super). Ready o Q (next c)) (e ∙ stripe_is)
+                  (p.ready c (next c) (sound_journalled c a) (subst (λ (Q : Super). InPlace z Q c) (sym e) (q.places c (ready_asked v.went S c a))) (changes r (held u) c).this (rest_same c a b)),
+              rewrites c a b,
             ),
           );
         }

@@ -13,7 +13,7 @@ use Rattle.store.specs.declared.Ask.{Ask}
 use Rattle.store.specs.declared.Ask.TheVariants.{Read, Write, Flush, Size, Add, Replace}
 use Rattle.store.specs.declared.Reply.{Reply}
 use Rattle.store.specs.declared.Store.{Store}
-use Rattle.store.proofs.Histories.{still}
+use Rattle.store.proofs.Histories.{still, stands_like}
 use Rattle.store.proofs.Asking.{tells_nothing}
 
 pub both : (x y : Bool) → T x → T y → T (x && y)
@@ -92,26 +92,13 @@ pub rests : {s : Store} {room : List ℕ} {x : Shelf} {es : List Event} → Serv
 unfolding age_of grown older ticks
 rests {s} {room} {x} v none =
     let b = v.table in
-    let st = v.stands in
     let ex = v.stands.explains in
     let idle : (t : ℕ) → t < 8 → v.h.way t ≡ Free = λ t l.
     let j = near b t l in entry_open _ _ _ (v.h.way t) (b.entries t l) (subst (λ q. at s.tags.asked q ≡ None) j.1.1 (none j.0 j.1.0)) in
     record {
       c = v.c;
       h = aged v.h;
-      stands = record {
-        lit = st.lit;
-        ready = st.ready;
-        marks = st.marks;
-        same = st.same;
-        explains = record {
-          run = turns ex.run (every_one 8 (λ t. young x.sectors (v.h.way t)) (youth_of b x.sectors)) (omega (arith, ap age_of (still ex.run)));
-          matches = record { disks = ex.matches.disks; content = ex.matches.content };
-          coded = ex.coded;
-          idle = ex.idle;
-          early = omega (arith, ex.early);
-        };
-      };
+      stands = stands_like v.stands refl refl (omega arith) (turns ex.run (every_one 8 (λ t. young x.sectors (v.h.way t)) (youth_of b x.sectors)) (omega (arith, ap age_of (still ex.run))));
       table = record {
         in_turn = b.in_turn;
         entries = λ t l. entry_older _ _ _ (v.h.way t) (b.entries t l);
@@ -136,8 +123,6 @@ module _ {s : Store} {room : List ℕ} {n : ℕ} {h : Seen} (b : Table s room n 
       ((u : ℕ) → u < 8 → column u room' ≡ column u room) → Telling (record { tag = t; ask = a; reply = r }) words s'' room' y fs
   unfolding older ticks
   tells_one s'' sectors super long closed cursor words-kept =
-      let st = p.stands in
-      let ex = p.stands.explains in
       let size_same : size_of y.sectors p.h' ≡ size_of n h = ap (λ (z : ℕ). size_of z p.h') size ∙ ap (λ (ds : List ℕ). (length ds - 2) * (n - 64)) p.disks in
       record {
         turned = (aged p.h', turned);
@@ -145,19 +130,7 @@ module _ {s : Store} {room : List ℕ} {n : ℕ} {h : Seen} (b : Table s room n 
             (record {
               c = p.c;
               h = set_way t Free (aged p.h');
-              stands = record {
-                lit = st.lit;
-                ready = rw super st.ready;
-                marks = rw super st.marks;
-                same = sectors ∙ st.same;
-                explains = rw super (record {
-                  run = tells t turned (ap older p.way) p.starts;
-                  matches = record { disks = ex.matches.disks; content = ex.matches.content };
-                  coded = ex.coded;
-                  idle = ex.idle;
-                  early = omega (arith, ex.early);
-                });
-              };
+              stands = stands_like p.stands sectors super (omega arith) (tells t turned (ap older p.way) p.starts);
               table = record {
                 in_turn = omega (arith, cursor);
                 entries = λ u lu. elim (cases_eq u t) [
