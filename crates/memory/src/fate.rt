@@ -14,6 +14,7 @@ ghost use Rattle.memory.specs.declared.platter.Platter.{Platter};
 use crate::diary::Diary;
 use crate::platter::draw;
 use crate::refusals::{CannotDie, TableFull};
+use crate::usage::place;
 use crate::{Disk, State};
 
 // What is to come: a disk dies; the power goes, and this number chooses what is left.
@@ -110,10 +111,7 @@ impl State {
         ensures done { OnOk result ((p : Platter) → Death (shelf_with p diary.old self.old) (seen_of diary.old) disk (shelf_with p diary.new self.new) (seen_of diary.new)) }
         ensures kept { OnErr result ((p : Platter) → Spared (shelf_with p diary.old self.old) (seen_of diary.old) disk (shelf_with p diary.new self.new) (seen_of diary.new) (length diary.old.words.now ≤ diary.old.noted + 1)) }
     {
-        if disk > 15 {
-            return Err(CannotDie);
-        }
-        let d = disk as usize;
+        let d = place(disk)?;
         let Disk {
             alive,
             in_use,

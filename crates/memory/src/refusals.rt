@@ -46,3 +46,10 @@ impl From<LogFull> for CannotDie {
         CannotDie
     }
 }
+
+// Nor does one that there isn't.
+impl From<NoSuchDisk> for CannotDie {
+    fn from(_none: NoSuchDisk) -> CannotDie {
+        CannotDie
+    }
+}

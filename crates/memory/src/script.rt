@@ -15,7 +15,7 @@
 // | 8 n seed | the power goes at the n-th thing asked from here on |
 //
 // Anything else is a step at which nothing is asked. A tag or a disk that doesn't fit 32 bits counts as 4294967295.
-ghost use Rattle.std.specs.Prelude.{◌≡◌, min, slice_index};
+ghost use Rattle.std.specs.Prelude.{◌≡◌, ◌+◌, ◌<◌, ◌≤◌, None, IfSome, length, drop, min, slice_index};
 ghost use Rattle.memory.specs.Steps.{step_of};
 
 use crate::fate::Fate;
@@ -68,7 +68,9 @@ impl From<[u64; 4]> for Step {
 
 impl<'a> Script<'a> {
     // All of it is still to come.
-    pub fn new(words: &'a [u64]) -> Script<'a> {
+    pub fn new(words: &'a [u64]) -> Script<'a>
+        ensures { (result.words.now ≡ words.now) × ((result.ahead.now ≡ words.now) × (result.rest ≡ 0)) }
+    {
         Script {
             words,
             ahead: words,
@@ -77,12 +79,18 @@ impl<'a> Script<'a> {
     }
 
     // It begins anew.
-    pub fn restart(&mut self) {
+    pub fn restart(&mut self)
+        ensures { (self.new.words.now ≡ self.old.words.now) × ((self.new.ahead.now ≡ self.old.words.now) × (self.new.rest ≡ 0)) }
+    {
         *self = Script::new(self.words);
     }
 
     // The next step; none while nothing is asked, and at the end.
-    pub fn next_step(&mut self) -> Option<Step> {
+    pub fn next_step(&mut self) -> Option<Step>
+        ensures rests { 0 < self.old.rest → (result ≡ None) × ((self.new.ahead.now ≡ self.old.ahead.now) × (self.new.rest + 1 ≡ self.old.rest)) }
+        ensures step { IfSome result (λ s. (4 ≤ length self.old.ahead.now) × ((s ≡ step_of (slice_index self.old.ahead.now 0) (slice_index self.old.ahead.now 1) (slice_index self.old.ahead.now 2) (slice_index self.old.ahead.now 3)) × (self.new.ahead.now ≡ drop 4 self.old.ahead.now))) }
+        ensures ends { result ≡ None → self.old.rest ≡ 0 → length self.old.ahead.now < 4 }
+    {
         if self.rest > 0 {
             self.rest -= 1;
             return None;

@@ -36,7 +36,7 @@ fn told_out(a: Ask, r: Reply) -> Option<u32>
 }
 
 // The place of a disk among the sixteen.
-fn place(disk: u32) -> Result<usize, NoSuchDisk>
+pub fn place(disk: u32) -> Result<usize, NoSuchDisk>
     ensures { MatchResult result (λ k. (k ≡ disk) × (k < 16)) (λ _. 15 < disk) }
 {
     if disk > 15 {

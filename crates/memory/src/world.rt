@@ -110,7 +110,9 @@ impl<'a> World for Memory<'a> {
         if why > 0 {
             return self.diary.note(What::Refused(why), tag, a, words).is_ok();
         }
-        self.diary.note(What::Asked, tag, a, words).is_ok() && self.state.take_in(a).is_ok()
+        let noted = self.diary.note(What::Asked, tag, a, words);
+        let taken = self.state.take_in(a);
+        noted.is_ok() && taken.is_ok()
     }
 
     fn turned(&mut self) -> bool {
@@ -118,6 +120,8 @@ impl<'a> World for Memory<'a> {
     }
 
     fn told(&mut self, tag: u32, a: Ask, r: Reply, words: &[u64]) -> bool {
-        self.diary.note(What::Told(r), tag, a, words).is_ok() && self.state.let_out(a, r).is_ok()
+        let noted = self.diary.note(What::Told(r), tag, a, words);
+        let let_out = self.state.let_out(a, r);
+        noted.is_ok() && let_out.is_ok()
     }
 }

@@ -103,7 +103,7 @@ reaches n (Replace d f) e = absurd (omega (arith, e))
 
 -- one that isn't under way takes its place among the others
 module _ {s : Store} {room : List ℕ} {n : ℕ} {h : Seen} (v : Table s room n h) (s' : Store) (room' : List ℕ) (t : ℕ) (a : Ask) (w : List ℕ) (m : ℕ → ℕ)
-    (long : t < length s.tags.asked) (noted : s'.tags.asked ≡ set s.tags.asked t (Some a)) (cursor : s'.tags.cursor ≡ s.tags.cursor)
+    (long : t < length s.tags.asked) (noted : s'.tags.asked ≡ set s.tags.asked t (Some a)) (cursor : s'.tags.cursor.number ≡ s.tags.cursor.number)
     (here : column t room' ≡ w) (others : (u : ℕ) → u < 8 → (u ≡ t → ⊥) → column u room' ≡ column u room) (built : T (core a)) (fits : Reaches a (size_of n h)) where
   abbrev way : ℕ → Way
   way u = cond (eqb u t) (Under a w m 0) (h.way u)
@@ -126,12 +126,12 @@ module _ {s : Store} {room : List ℕ} {n : ℕ} {h : Seen} (v : Table s room n 
             (subst (λ (z : List ℕ). Entry (at s.tags.asked u) z (size_of n h) (h.way u)) (sym (others u l ne)) (v.entries u l)))
       ]
 
-  pub waits_asked : (j : ℕ) → j < 8 → Waits (way ((s'.tags.cursor + j) % 8)) j
+  pub waits_asked : (j : ℕ) → j < 8 → Waits (way ((s'.tags.cursor.number + j) % 8)) j
   waits_asked j l =
       subst (λ (k : ℕ). Waits (way ((k + j) % 8)) j) (sym cursor)
-      (elim (cases_eq ((s.tags.cursor + j) % 8) t) [
-        | inl e ↦ subst (λ (q : Way). Waits q j) (sym (cond-true (eqb ((s.tags.cursor + j) % 8) t) (Under a w m 0) (h.way ((s.tags.cursor + j) % 8)) (eq-eqb _ t e))) (omega arith)
-        | inr ne ↦ subst (λ (q : Way). Waits q j) (sym (cond-false (eqb ((s.tags.cursor + j) % 8) t) (Under a w m 0) (h.way ((s.tags.cursor + j) % 8)) (ne_eqb _ t ne))) (v.waits j l)
+      (elim (cases_eq ((s.tags.cursor.number + j) % 8) t) [
+        | inl e ↦ subst (λ (q : Way). Waits q j) (sym (cond-true (eqb ((s.tags.cursor.number + j) % 8) t) (Under a w m 0) (h.way ((s.tags.cursor.number + j) % 8)) (eq-eqb _ t e))) (omega arith)
+        | inr ne ↦ subst (λ (q : Way). Waits q j) (sym (cond-false (eqb ((s.tags.cursor.number + j) % 8) t) (Under a w m 0) (h.way ((s.tags.cursor.number + j) % 8)) (ne_eqb _ t ne))) (v.waits j l)
       ])
 
 module _ {s : Store} {room : List ℕ} {x : Shelf} {es : List Event} (v : Serving s room x es) (t : ℕ) (a : Ask) (w : List ℕ) where
@@ -146,7 +146,7 @@ module _ {s : Store} {room : List ℕ} {x : Shelf} {es : List Event} (v : Servin
         table = v.table;
       }
 
-  pub asked_on : (s' : Store) (room' : List ℕ) → s'.sectors ≡ s.sectors → s'.superblock ≡ s.superblock → t < length s.tags.asked → s'.tags.asked ≡ set s.tags.asked t (Some a) → s'.tags.cursor ≡ s.tags.cursor →
+  pub asked_on : (s' : Store) (room' : List ℕ) → s'.sectors ≡ s.sectors → s'.superblock ≡ s.superblock → t < length s.tags.asked → s'.tags.asked ≡ set s.tags.asked t (Some a) → s'.tags.cursor.number ≡ s.tags.cursor.number →
       column t room' ≡ w → ((u : ℕ) → u < 8 → (u ≡ t → ⊥) → column u room' ≡ column u room) → Reaches a (size_of x.sectors v.h) → T (core a) → 0 ≡ wrong can x.sectors v.h t a →
       Serving s' room' (takes_in a x) (Asked t a w ∷ es)
   unfolding ticks

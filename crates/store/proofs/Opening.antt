@@ -115,7 +115,7 @@ same_there a zero t = refl
 same_there a (suc n) zero = refl
 same_there a (suc n) (suc t) = same_there a n t
 
-module _ {x y : Shelf} {es fs : List Event} (n : ℕ) (b : Superblock) (tags : Tags) (room : List ℕ) (died : Deaths x es y fs) (size : n ≡ y.sectors) (vacant : tags.asked ≡ replicate 8 None) (first : tags.cursor ≡ 0) where
+module _ {x y : Shelf} {es fs : List Event} (n : ℕ) (b : Superblock) (tags : Tags) (room : List ℕ) (died : Deaths x es y fs) (size : n ≡ y.sectors) (vacant : tags.asked ≡ replicate 8 None) (first : tags.cursor.number ≡ 0) where
   nothing_asked : (t : ℕ) → at tags.asked t ≡ None
   nothing_asked t = ap (λ (ts : List (Option Ask)). at ts t) vacant ∙ same_there None 8 t
 

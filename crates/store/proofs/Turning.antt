@@ -63,11 +63,11 @@ waits_free j = tt
 
 -- each tag is some way from the cursor
 module _ {s : Store} {room : List ℕ} {n : ℕ} {h : Seen} (v : Table s room n h) where
-  near : (t : ℕ) → t < 8 → (j : ℕ) × ((j < 8) × ((s.tags.cursor + j) % 8 ≡ t))
-  near t l = let c = v.in_turn in ((t + 8 - s.tags.cursor) % 8, (omega arith, omega arith))
+  near : (t : ℕ) → t < 8 → (j : ℕ) × ((j < 8) × ((s.tags.cursor.number + j) % 8 ≡ t))
+  near t l = let c = v.in_turn in ((t + 8 - s.tags.cursor.number) % 8, (omega arith, omega arith))
 
   youth_of : (m t : ℕ) → t < 8 → T (young m (h.way t))
-  youth_of m t l = let j = near t l in subst (λ q. T (young m (h.way q))) j.1.1 (waits_young m j.0 (h.way ((s.tags.cursor + j.0) % 8)) (v.waits j.0 j.1.0))
+  youth_of m t l = let j = near t l in subst (λ q. T (young m (h.way q))) j.1.1 (waits_young m j.0 (h.way ((s.tags.cursor.number + j.0) % 8)) (v.waits j.0 j.1.0))
 
   pub young_way : (t : ℕ) {a : Ask} {w : List ℕ} {m : ℕ → ℕ} {g : ℕ} → t < 8 → h.way t ≡ Under a w m g → g ≤ 7
   young_way t {a} {w} {m} {g} l e =
@@ -75,20 +75,20 @@ module _ {s : Store} {room : List ℕ} {n : ℕ} {h : Seen} (v : Table s room n 
       let k : g + j.0 ≤ 7 = subst (λ (q : Way). Waits q j.0) (ap h.way j.1.1 ∙ e) (v.waits j.0 j.1.0) in omega arith
 
   -- whoever isn't told waits one turn less
-  waits_next : {t : ℕ} {a : Ask} (f : First t a s.tags.asked s.tags.cursor) (j : ℕ) → j < 8 → (((t + 1) % 8 + j) % 8 ≡ t → ⊥) → Waits (older (h.way (((t + 1) % 8 + j) % 8))) j
+  waits_next : {t : ℕ} {a : Ask} (f : First t a s.tags.asked s.tags.cursor.number) (j : ℕ) → j < 8 → (((t + 1) % 8 + j) % 8 ≡ t → ⊥) → Waits (older (h.way (((t + 1) % 8 + j) % 8))) j
   waits_next {t} f j lj ne =
       let c = v.in_turn in let at = f.here in let k = f.near in
       elim (cases_lt (f.k + 1 + j) 8) [
-        | inl p ↦ (let same : (s.tags.cursor + (f.k + 1 + j)) % 8 ≡ ((t + 1) % 8 + j) % 8 = omega arith in
-            subst (λ q. Waits (older (h.way q)) j) same (waits_older j (f.k + 1 + j) (h.way ((s.tags.cursor + (f.k + 1 + j)) % 8)) (omega arith) (v.waits (f.k + 1 + j) p)))
-        | inr p ↦ (let i : ℕ = f.k + 1 + j - 8 in let same : (s.tags.cursor + i) % 8 ≡ ((t + 1) % 8 + j) % 8 = omega arith in
+        | inl p ↦ (let same : (s.tags.cursor.number + (f.k + 1 + j)) % 8 ≡ ((t + 1) % 8 + j) % 8 = omega arith in
+            subst (λ q. Waits (older (h.way q)) j) same (waits_older j (f.k + 1 + j) (h.way ((s.tags.cursor.number + (f.k + 1 + j)) % 8)) (omega arith) (v.waits (f.k + 1 + j) p)))
+        | inr p ↦ (let i : ℕ = f.k + 1 + j - 8 in let same : (s.tags.cursor.number + i) % 8 ≡ ((t + 1) % 8 + j) % 8 = omega arith in
             let less : i < f.k = elim (cases_lt i f.k) [ inl q ↦ q | inr q ↦ absurd (ne (omega arith)) ] in
-            let free = entry_open _ _ _ (h.way ((s.tags.cursor + i) % 8)) (v.entries ((s.tags.cursor + i) % 8) (omega arith)) (f.before i less) in
+            let free = entry_open _ _ _ (h.way ((s.tags.cursor.number + i) % 8)) (v.entries ((s.tags.cursor.number + i) % 8) (omega arith)) (f.before i less) in
             subst (λ q. Waits (older (h.way q)) j) same (subst (λ z. Waits (older z) j) (sym free) (waits_free j)))
       ]
 
 -- nothing is under way
-pub rests : {s : Store} {room : List ℕ} {x : Shelf} {es : List Event} → Serving s room x es → ((j : ℕ) → j < 8 → at s.tags.asked ((s.tags.cursor + j) % 8) ≡ None) → Serving s room x (Turned ∷ es)
+pub rests : {s : Store} {room : List ℕ} {x : Shelf} {es : List Event} → Serving s room x es → ((j : ℕ) → j < 8 → at s.tags.asked ((s.tags.cursor.number + j) % 8) ≡ None) → Serving s room x (Turned ∷ es)
 unfolding age_of grown older ticks
 rests {s} {room} {x} v none =
     let b = v.table in
@@ -102,13 +102,13 @@ rests {s} {room} {x} v none =
       table = record {
         in_turn = b.in_turn;
         entries = λ t l. entry_older _ _ _ (v.h.way t) (b.entries t l);
-        waits = λ j l. subst (λ z. Waits (older z) j) (sym (idle ((s.tags.cursor + j) % 8) (omega arith))) tt;
+        waits = λ j l. subst (λ z. Waits (older z) j) (sym (idle ((s.tags.cursor.number + j) % 8) (omega arith))) tt;
       };
     }
 
 -- one is told
 module _ {s : Store} {room : List ℕ} {n : ℕ} {h : Seen} (b : Table s room n h) (s' : Store) (room' : List ℕ) {a : Ask} {r : Reply} (t : ℕ) {words : List ℕ} {y : Shelf} {fs : List Event}
-    (l : t < 8) (f : First t a s.tags.asked s.tags.cursor) (p : Performed a r t words s' h y fs) (size : y.sectors ≡ n) where
+    (l : t < 8) (f : First t a s.tags.asked s.tags.cursor.number) (p : Performed a r t words s' h y fs) (size : y.sectors ≡ n) where
   youth : T (every 8 (λ (u : ℕ). young y.sectors (p.h'.way u)))
   youth = every_one 8 (λ u. young y.sectors (p.h'.way u)) (λ u lu. elim (cases_eq u t) [
     | inl e ↦ subst (λ z. T (young y.sectors z)) (sym (ap p.h'.way e ∙ p.way)) (waits_young y.sectors 0 (Over a r p.back p.age) (omega (arith, p.young)))
@@ -119,7 +119,7 @@ module _ {s : Store} {room : List ℕ} {n : ℕ} {h : Seen} (b : Table s room n 
   unfolding age_of
   turned = turns p.stands.explains.run youth (omega (arith, ap age_of (still p.stands.explains.run)))
 
-  pub tells_one : (s'' : Store) → s''.sectors ≡ s'.sectors → s''.superblock ≡ s'.superblock → t < length s.tags.asked → s''.tags.asked ≡ set s.tags.asked t None → s''.tags.cursor ≡ (t + 1) % 8 →
+  pub tells_one : (s'' : Store) → s''.sectors ≡ s'.sectors → s''.superblock ≡ s'.superblock → t < length s.tags.asked → s''.tags.asked ≡ set s.tags.asked t None → s''.tags.cursor.number ≡ (t + 1) % 8 →
       ((u : ℕ) → u < 8 → column u room' ≡ column u room) → Telling (record { tag = t; ask = a; reply = r }) words s'' room' y fs
   unfolding older ticks
   tells_one s'' sectors super long closed cursor words-kept =

@@ -79,9 +79,9 @@ pub record Standing (s : Store) (x : Shelf) (k : ℕ) (es : List Event) (c : Col
 
 -- what is under way is in the table and in the room, and none waits too long
 pub record Table (s : Store) (room : List ℕ) (n : ℕ) (h : Seen) : Type 0 where
-  pub in_turn : s.tags.cursor < 8
+  pub in_turn : s.tags.cursor.number < 8
   pub entries : (t : ℕ) → t < 8 → Entry (at s.tags.asked t) (column t room) (size_of n h) (h.way t)
-  pub waits : (j : ℕ) → j < 8 → Waits (h.way ((s.tags.cursor + j) % 8)) j
+  pub waits : (j : ℕ) → j < 8 → Waits (h.way ((s.tags.cursor.number + j) % 8)) j
 
 -- between turns
 pub record Serving (s : Store) (room : List ℕ) (x : Shelf) (es : List Event) : Type 0 where

@@ -1,6 +1,6 @@
 -- What is asked under the eight tags, and the words that were lent with it, against what is seen.
 -- Assumes nothing.
-use Rattle.std.specs.Prelude.{◌≡◌, ℕ, ◌+◌, ◌%◌, ◌<◌, ◌≤◌, Bool, true, false, cond, not, ◌||◌, T, List, Some, None, Option, Ok, Err, Result, nat_le, nat_lt, slice_index_or}
+use Rattle.std.specs.Prelude.{◌≡◌, ℕ, ◌+◌, ◌%◌, ◌<◌, ◌≤◌, Bool, true, false, cond, not, ◌||◌, T, List, Some, None, Option, Ok, Err, Result, nat_le, nat_lt, slice_index_or, codes}
 use Rattle.store.specs.Store.{Way, Free, Under, Over, core}
 use Rattle.store.specs.declared.tags.Tag.{Tag}
 use Rattle.store.specs.declared.refusal.Refusal.{Refusal}
@@ -61,6 +61,12 @@ abbrev pub number_of : Refusal → ℕ
 number_of BadTag = 1
 number_of Sector = 3
 number_of Unbuilt = 9
+
+-- and what is printed of it
+abbrev pub text_of : Refusal → List ℕ
+text_of BadTag = codes "no such tag, or something is asked under it"
+text_of Sector = codes "no such sector"
+text_of Unbuilt = codes "not built"
 
 -- the number of why, or 0 where it is taken
 abbrev pub numbered : {A : Type 0} → Result A Refusal → ℕ

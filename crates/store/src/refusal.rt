@@ -1,5 +1,8 @@
 // Why what is asked is turned away. It touches nothing.
-ghost use Rattle.std.specs.Prelude.{◌≡◌};
+ghost use Rattle.std.specs.Prelude.{◌≡◌, Some};
+
+use std::error::Error;
+use std::fmt;
 
 #[derive(Clone, Copy, PartialEq, Eq, Debug)]
 pub enum Refusal {
@@ -25,3 +28,19 @@ impl From<Refusal> for u32 {
         }
     }
 }
+
+impl fmt::Display for Refusal {
+    ghost use Rattle.store.specs.Tags.{text_of};
+
+    ghost output = { λ why. Some (text_of why) };
+
+    fn fmt<W: fmt::Write>(&self, f: &mut fmt::Formatter<W>) -> fmt::Result {
+        f.write_str(match self {
+            Refusal::Tag => "no such tag, or something is asked under it",
+            Refusal::Sector => "no such sector",
+            Refusal::Unbuilt => "not built",
+        })
+    }
+}
+
+impl Error for Refusal {}

@@ -60,7 +60,8 @@ pub fn load<D: Disks>(
 {
     let mut missing = Missing::Nothing;
     for (i, column) in stripe.iter_mut().enumerate() {
-        if !fetch(d, members, place_of(i, row.stripe), row.sector, column)? {
+        let p = place_of(i, row.stripe);
+        if !fetch(d, members, p, row.sector, column)? {
             missing = missing.also(i);
         }
     }

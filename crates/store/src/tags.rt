@@ -49,7 +49,7 @@ impl Tag {
 #[derive(Drop)]
 pub struct Tags {
     asked: [Option<Ask>; 8],
-    cursor: u32,
+    cursor: Tag,
 }
 
 impl Tags {
@@ -57,11 +57,11 @@ impl Tags {
 
     // Nothing is asked.
     pub fn new() -> Tags
-        ensures { (result.asked ≡ replicate 8 None) × (result.cursor ≡ 0) }
+        ensures { (result.asked ≡ replicate 8 None) × (result.cursor.number ≡ 0) }
     {
         Tags {
             asked: [None; 8],
-            cursor: 0,
+            cursor: Tag { number: 0 },
         }
     }
 
@@ -74,28 +74,29 @@ impl Tags {
 
     // a is asked under tag t.
     pub fn note(&mut self, t: Tag, a: Ask)
-        ensures { (self.new.asked ≡ slice_set self.old.asked t.number (Some a)) × ((self.new.cursor ≡ self.old.cursor) × (length self.old.asked ≡ 8)) }
+        ensures { (self.new.asked ≡ slice_set self.old.asked t.number (Some a)) × ((self.new.cursor.number ≡ self.old.cursor.number) × (length self.old.asked ≡ 8)) }
     {
         self.asked[t.index()] = Some(a);
     }
 
     // What was asked under tag t is told; the next one is looked for behind it.
     pub fn close(&mut self, t: Tag)
-        ensures { (self.new.asked ≡ slice_set self.old.asked t.number None) × ((self.new.cursor ≡ (t.number + 1) % 8) × (length self.old.asked ≡ 8)) }
+        ensures { (self.new.asked ≡ slice_set self.old.asked t.number None) × ((self.new.cursor.number ≡ (t.number + 1) % 8) × (length self.old.asked ≡ 8)) }
     {
         self.asked[t.index()] = None;
-        self.cursor = (u32::from(t) + 1) % 8;
+        self.cursor = Tag {
+            number: (t.number + 1) % 8,
+        };
     }
 
     // The first tag from the cursor on, going round, under which something is asked.
     pub fn due(&self) -> Option<(Tag, Ask)>
-        requires { self.now.cursor < 8 }
-        ensures { Due result self.now.asked self.now.cursor }
+        ensures { Due result self.now.asked self.now.cursor.number }
     {
         // It goes round, so the tags are counted: what is behind the cursor and then what is before it is no plainer as a chain.
         for k in 0..8u32 {
             let t = Tag {
-                number: (self.cursor + k) % 8,
+                number: (self.cursor.number + k) % 8,
             };
             if let Some(a) = self.asked[t.index()] {
                 return Some((t, a));

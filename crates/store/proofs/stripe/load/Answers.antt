@@ -17,7 +17,7 @@ fetch-requires-clause-place g c =
     let w = c.loop-i.invariant.went in
     let l : c.loop-i.i < length ds = omega (arith, c.requires.lent) in
     let b = place_within (length ds) c.loop-i.i c.args.row.stripe c.requires.serving.roster.least l in
-    (omega (arith, b, c.place_of.ensures), omega (arith, w.deaths.size, c.requires.size))
+    (omega (arith, b, c.place_of-p.ensures), omega (arith, w.deaths.size, c.requires.size))
 
 pub returns-in_err-fetch-clause-went : goal.returns-in_err-fetch-clause-went
 returns-in_err-fetch-clause-went g c = went_longer (omega (arith, c.requires.lent)) (went_then c.loop-i.invariant.went c.fetch.ensures.went)
@@ -29,7 +29,7 @@ loop-i-preserved g c =
     let lt : c.loop-i.i < length c.loop-i.stripe = omega (arith, l) in
     let w = c.fetch.ensures.went in
     let heard : Answered (disk_of ds c.args.row.stripe c.loop-i.i) c.args.row.sector c.fetch.new.into c.in_ok-fetch.field-0 (g.D.Disks.shelf c.loop-i.d) (g.D.Disks.shelf c.fetch.new.d) =
-    subst (λ (p : ℕ). Answered (get_or ds p 0) c.args.row.sector c.fetch.new.into c.in_ok-fetch.field-0 (g.D.Disks.shelf c.loop-i.d) (g.D.Disks.shelf c.fetch.new.d)) c.place_of.ensures
+    subst (λ (p : ℕ). Answered (get_or ds p 0) c.args.row.sector c.fetch.new.into c.in_ok-fetch.field-0 (g.D.Disks.shelf c.loop-i.d) (g.D.Disks.shelf c.fetch.new.d)) c.place_of-p.ensures
     c.in_ok-fetch.ensures.how in
     elim c.if-not-branch.branch [
       | then-not-branch b ↦
