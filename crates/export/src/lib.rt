@@ -11,7 +11,7 @@ use std::fmt;
 use store::years;
 
 // Not as much was lent as `years` needs, or it is to go on for longer than it may. An error of this crate's own: the
-// field's says another thing, and nothing here builds on the field.
+// field's says another thing.
 #[derive(Clone, Copy, PartialEq, Eq, Debug)]
 pub struct Misfit;
 

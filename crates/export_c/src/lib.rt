@@ -1,4 +1,5 @@
 // The store on disks in lent memory for programs in C and Rust, as a static library. It touches nothing but what it is lent.
+// C has no `Result`, so the call has a contract of its own: false says that it was refused.
 #![tactic(auto)]
 
 ghost use Rattle.std.specs.Prelude.{◌≡◌, true, false, length};

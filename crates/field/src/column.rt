@@ -11,7 +11,7 @@ use crate::raising::{Plain, Raising};
 // What a column has at one place of a disk: 512 elements, eight to a word.
 pub type Sector = [u64; 64];
 
-// Raises each word of `to` and adds `other`.
+// Raises each word of `to` and adds `other`. By place: what a zip with `iter_mut` wrote is not known after it.
 pub fn add_to<R: Raising>(to: &mut Sector, other: &Sector) -> usize
     ensures value { to.new ≡ add (map R.raise to.old) other.now }
     ensures good { Good other.now }

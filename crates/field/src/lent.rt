@@ -35,7 +35,7 @@ fn columns_of(stripe: &[u64], k: usize) -> Result<&[Sector], Misfit>
     Ok(columns)
 }
 
-// Column i anew.
+// Column i anew. Columns that `as_chunks_mut` lends would be known no more once they are given back, so they are written one by one.
 fn write(stripe: &mut [u64], i: usize, words: &Sector)
     requires { (i < 12) × (64 * i + 64 ≤ length stripe.old) }
     ensures { Written i words.now (λ e. column e stripe.old) (λ e. column e stripe.new) }

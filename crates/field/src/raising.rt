@@ -29,6 +29,7 @@ pub trait Doubling: Raising {
 }
 
 // Nothing is done.
+#[derive(Clone, Copy, PartialEq, Eq, Debug)]
 pub struct Plain;
 
 impl Raising for Plain {
@@ -46,6 +47,7 @@ impl Raising for Plain {
 }
 
 // The word is doubled as a whole, by shifts and masks.
+#[derive(Clone, Copy, PartialEq, Eq, Debug)]
 pub struct Shifts;
 
 impl Raising for Shifts {
@@ -67,6 +69,7 @@ impl Doubling for Shifts {
 }
 
 // Each element is looked up.
+#[derive(Clone, Copy, PartialEq, Eq, Debug)]
 pub struct Table;
 
 impl Raising for Table {

@@ -1,5 +1,5 @@
 // Who the members of the store are, in their places, and which of them are known to be dead. It touches nothing but the value itself.
-ghost use Rattle.std.specs.Prelude.{◌≡◌, ℕ, ◌+◌, ◌<◌, ◌≤◌, Bool, true, false, List, [], ◌∷◌, ◌++◌, length, drop, ◌≢◌, slice_index, slice_set};
+ghost use Rattle.std.specs.Prelude.{◌≡◌, ℕ, ◌+◌, ◌<◌, ◌≤◌, Bool, true, false, List, [], ◌∷◌, ◌++◌, length, drop, slice_index, slice_set};
 ghost use Rattle.layout.specs.Members.{Roster, Absent, Finds, marked, with_mark, without_mark, unless};
 ghost use Rattle.layout.specs.declared.members.Marks.TheVariants.{Nobody};
 

@@ -170,7 +170,7 @@ impl Plan {
     }
 
     // Does what was shown of a sector become lasting now that it is written over? That is for the next cut to choose. One that is planned for
-    // the last number there is never comes.
+    // the last number there is, is not looked at.
     pub fn lasts_at_once(&self) -> bool {
         self.due
             .iter()

@@ -2,7 +2,7 @@
 //
 // Nothing is touched here but the cells that are lent. The first `written` cells hold a list of the places that were written since the
 // last sync, so that a sync only has to forget the list, and a cut only has to go through it. It lies there so that no heap is needed.
-ghost use Rattle.std.specs.Prelude.{◌≡◌, ℕ, ◌+◌, ◌*◌, ◌<◌, List, length, get_or};
+ghost use Rattle.std.specs.Prelude.{◌≡◌, ℕ, ◌+◌, ◌*◌, ◌<◌, length};
 ghost use Rattle.memory.specs.Held.{cell_at, waits as is_listed, before_of, many, Cleared, Laid};
 ghost use Rattle.memory.specs.Draws.{drawn, left_of, listing, Chosen};
 ghost use Rattle.memory.specs.declared.platter.Platter.{Platter};

@@ -3,7 +3,7 @@
 // Nothing is here but tests and what they share. They stand apart from the crate `memory` so that it is proved but once.
 #![tactic(auto)]
 
-ghost use Rattle.std.specs.Prelude.{◌≡◌, ◌≤◌, [], length, IfSome};
+ghost use Rattle.std.specs.Prelude.{◌≡◌, ◌≤◌, [], IfSome};
 ghost use Rattle.store.specs.Shelf.{AtStart};
 
 use memory::{Cell, Memory};

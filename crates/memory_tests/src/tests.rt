@@ -44,6 +44,7 @@ fn a_cut_leaves_what_was_drawn(rt: HostRuntime) {
         assert_eq!(rt; word_at(m, 0), None);
         let old = [true, true, false, false, false, true, true, false];
         for (s, is_old) in old.into_iter().enumerate() {
+            // there is no `From` of a `usize`
             let s = s as u64;
             let left = if is_old { s + 1 } else { s + 101 };
             assert_eq!(rt; word_at(m, s), Some(left));

@@ -60,14 +60,21 @@ impl Model {
         }
     }
 
+    // The write that is under way under a tag, if there is such a tag.
+    fn under(&mut self, tag: u64) -> Option<&mut Option<Writing>> {
+        self.writing.get_mut(usize::try_from(tag).ok()?)
+    }
+
     // Something is asked: only what is written matters here. None where there is no such sector.
     fn asked(&mut self, request: Request) -> Option<()> {
         let sector = SECTORS.iter().position(|&s| s == request.sector)?;
-        if request.tag < 8 && request.kind == Kind::Write {
-            self.writing[request.tag as usize] = Some(Writing {
-                sector,
-                value: request.word.unwrap_or(MIXED),
-            });
+        if request.kind == Kind::Write {
+            if let Some(writing) = self.under(request.tag) {
+                *writing = Some(Writing {
+                    sector,
+                    value: request.word.unwrap_or(MIXED),
+                });
+            }
         }
         Some(())
     }
@@ -75,14 +82,15 @@ impl Model {
     // Something is told. None where that can't be: what is read was never there, or was not asked.
     fn told(&mut self, request: Request) -> Option<()> {
         let sector = SECTORS.iter().position(|&s| s == request.sector)?;
-        let may = self.may.get_mut(sector)?;
+        let writing = self.under(request.tag)?;
         match request.kind {
             Kind::Write => {
-                let tag = usize::try_from(request.tag).ok()?;
-                *may = Values::only(self.writing.get_mut(tag)?.take()?.value);
+                let value = writing.take()?.value;
+                *self.may.get_mut(sector)? = Values::only(value);
                 Some(())
             }
             Kind::Read => {
+                let may = self.may.get_mut(sector)?;
                 let word = request.word.unwrap_or(MIXED);
                 let good = may.contains(word);
                 *may = Values::only(word);

@@ -20,6 +20,7 @@ pub struct Request {
     pub word: Option<u64>,
 }
 
+// What was seen. An `ArrayVec` fills its free places with the default.
 #[derive(Clone, Copy, PartialEq, Eq, Debug, Default)]
 pub enum Event {
     #[default]

@@ -8,7 +8,6 @@ mod split;
 mod value;
 
 ghost use Rattle.std.specs.Prelude.{◌≡◌};
-ghost use Rattle.std.specs.Str.{bytes_eq};
 ghost use Rattle.script.specs.Meaning.{one_word, two_words, three_words, four_words, command_of};
 
 use split::first_word;

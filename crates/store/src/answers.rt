@@ -23,8 +23,8 @@ impl Answer {
     }
 }
 
-// Sector s of disk `at`, and whether the disk lives: if it does, `into` has what it shows. A bool beside what is lent, and no
-// `Option` of a sector, since sectors are large.
+// Sector s of disk `at`, and whether the disk lives: if it does, `into` has what it shows. What is
+// large is lent, so only whether the disk lives is told, here and by what asks this.
 pub fn read_sector<D: Disks>(d: &mut D, at: u32, s: u64, into: &mut Sector) -> Result<bool, Gone>
     requires { MayAsk (D.shelf d.old) at s }
     ensures went { Went 1 Nowhere (D.shelf d.old) (D.seen d.old) (D.shelf d.new) (D.seen d.new) }

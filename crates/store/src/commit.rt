@@ -1,6 +1,6 @@
 // The next superblock: what was staged is made lasting, and then three members are told. It asks the disks, and writes sector 0 of
 // three of them.
-ghost use Rattle.std.specs.Prelude.{◌≡◌, ℕ, ◌<◌, ◌≤◌, false, List, length, MatchResult, slice_index};
+ghost use Rattle.std.specs.Prelude.{◌≡◌, ◌<◌, ◌≤◌, false, List, MatchResult};
 ghost use Rattle.layout.specs.Super.{super_of, says};
 ghost use Rattle.store.specs.Durable.{Went};
 ghost use Rattle.store.specs.Commits.{CanHead, Heading, Headed, Copying, Committed, Interrupted};

@@ -34,7 +34,8 @@ pub use refusal::Refusal;
 use tags::Tags;
 
 // The types and traits below, `serve` and `years` are the text by which the promise is given, and stay to the letter: why something is
-// refused is a number there, what is noted answers by a bool, and `serve` and `years` count their turns and lives by hand.
+// refused is a number there, what is noted answers by a bool, `serve` and `years` count their turns and lives by hand and lend slices, whose
+// lengths each contract names, and `open` is lent a room that it does not need.
 
 // What a disk answers. Dead: it has died, for ever. Dark: the power has gone, and every disk answers so from then on.
 #[derive(Clone, Copy)]

@@ -1,6 +1,6 @@
 // Coming up: the newest superblock of all disks is found, written again, and its journalled stripe brought to its place. It reads
 // sector 0 of every disk, writes that of three, and the journalled stripe's place; it may be cut as often as it likes.
-ghost use Rattle.std.specs.Prelude.{◌≡◌, ℕ, ◌+◌, ◌<◌, ◌≤◌, false, length, MatchResult};
+ghost use Rattle.std.specs.Prelude.{◌≡◌, ℕ, ◌+◌, ◌<◌, ◌≤◌, false, MatchResult};
 ghost use Rattle.layout.specs.Super.{says, super_of};
 ghost use Rattle.layout.specs.declared.members.Marks.TheVariants.{Nobody};
 ghost use Rattle.store.specs.Durable.{Went, Deaths, Nowhere};

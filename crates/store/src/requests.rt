@@ -1,5 +1,5 @@
 // What is asked of the store: why it is turned away, and how it is done. Reads and writes go to the disks through `sectors`.
-ghost use Rattle.std.specs.Prelude.{◌≡◌, ℕ, ◌+◌, ◌-◌, ◌*◌, ◌^◌, ◌<◌, ◌≤◌, Bool, true, false, List, length, IfOk, if◌then◌else◌, Some, MatchResult, nat_lt};
+ghost use Rattle.std.specs.Prelude.{◌≡◌, ℕ, ◌+◌, ◌-◌, ◌*◌, ◌^◌, ◌<◌, ◌≤◌, Bool, true, false, List, length, IfOk, Some, MatchResult};
 ghost use Rattle.field.specs.Stripe.{column};
 ghost use Rattle.store.specs.Durable.{Deaths};
 ghost use Rattle.store.specs.Tags.{at, numbered, refusal_of};

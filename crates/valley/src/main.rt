@@ -60,7 +60,7 @@ impl<P: Print> Village<'_, P> {
         Ok(number)
     }
 
-    // Plays a script to its end, a block at a time.
+    // Plays a script to its end, a block at a time. So many blocks no script has, and every loop ends.
     fn play(&mut self, input: &mut impl Read, block: &mut [u8]) -> io::Result<()> {
         let mut line = Line::new();
         let mut number = 1;
