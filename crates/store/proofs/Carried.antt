@@ -67,37 +67,43 @@ moving_is {ds} {from} {to} {x = x} {y} {es} {fs} e k = subst (λ (i : ℕ). Movi
 
 -- ---- the journalled stripe
 
-some_same : {a b : ℕ} → Some a ≡ Some b → a ≡ b
-some_same e = cc
-
 pub brought_none : (S : Super) (x : Shelf) → S.journal ≡ None → Brought S x x
-brought_none S x e r j d p h = let z : None ≡ Some r = sym e ∙ j in let q : ◌≡◌ {A = ℕ} 0 1 = cc in absurd (omega arith)
+brought_none S x e r j d p h = cc
 
 module _ (S : Super) {from r : ℕ} (i : from ≡ slot S.generation) (j : S.journal ≡ Some r) where
   pub level_across : {n : ℕ} {x y : Shelf} {es fs : List Event} → Went n (Level (64 + r)) x es y fs → Went n (Across S) x es y fs
   level_across w = went_wider (omega arith) (λ d s a v. (r, (j, v))) w
+
+  -- the members, and then the disk that is being filled
+  pub across_then : {n at : ℕ} {x y z : Shelf} {es fs gs : List Event} → Went n (Level (64 + r)) x es y fs → Went 2 (Only at (64 + r)) y fs z gs → Went (n + 2) (Across S) x es z gs
+  across_then w v = went_then (level_across w) (level_across (went_wider {n = 2} (omega arith) (λ d s a l. l.1) v))
+
+  same_row : (t : ℕ) → S.journal ≡ Some t → r ≡ t
+  same_row t e = cc
 
   pub slot_apart : from ≡ 64 + r → ⊥
   slot_apart e = omega (arith, slot_low S.generation)
 
   module _ {x y : Shelf} {es fs : List Event} (m : Moving (length S.members) S.members from (64 + r) x es y fs) where
     as_brought : (z : Shelf) (d t : ℕ) → S.journal ≡ Some t → Moved d from (64 + r) x z → Moved d (slot S.generation) (64 + t) x z
-    as_brought z d t e f = subst (λ (s : ℕ). Moved d s (64 + t) x z) i (subst (λ (u : ℕ). Moved d from (64 + u) x z) (some_same (sym j ∙ e)) f)
+    as_brought z d t e f = subst (λ (s : ℕ). Moved d s (64 + t) x z) i (subst (λ (u : ℕ). Moved d from (64 + u) x z) (same_row t e) f)
 
     -- nobody is being filled so far
-    pub brought_members : ((d p : ℕ) → Fills S.rebuild d p r → ⊥) → Brought S x y
-    brought_members none t e d p h =
-        as_brought y d t e (elim h [
-          | inl u ↦ subst (λ (k : ℕ). Moved k from (64 + r) x y) u.1 (m.moved p u.0)
-          | inr u ↦ absurd (none d p (subst (λ (k : ℕ). Fills S.rebuild d p k) (sym (some_same (sym j ∙ e))) u))
-        ])
+    pub brought_members : ((d p : ℕ) → Fills S.rebuild d p r → ⊥) → (x.on ≡ true → y.on ≡ true) × Brought S x y
+    brought_members none = (
+      m.lit,
+      λ t e d p h. as_brought y d t e (elim h [
+        | inl u ↦ subst (λ (k : ℕ). Moved k from (64 + r) x y) u.1 (m.moved p u.0)
+        | inr u ↦ absurd (none d p (subst (λ (k : ℕ). Fills S.rebuild d p k) (sym (same_row t e)) u))
+      ]),
+    )
 
     -- or it is this disk
     pub brought_fill : {z : Shelf} {gs : List Event} (at : ℕ) → ((d p : ℕ) → Fills S.rebuild d p r → d ≡ at) → Went 2 (Only at (64 + r)) y fs z gs → Moved at from (64 + r) y z → Brought S x z
     brought_fill {z} at one w f t e d p h =
         as_brought z d t e (elim h [
           | inl u ↦ moving_other slot_apart m at w f d (inr (subst (λ (k : ℕ). Moved k from (64 + r) x y) u.1 (m.moved p u.0)))
-          | inr u ↦ moving_other slot_apart m at w f d (inl (one d p (subst (λ (k : ℕ). Fills S.rebuild d p k) (sym (some_same (sym j ∙ e))) u)))
+          | inr u ↦ moving_other slot_apart m at w f d (inl (one d p (subst (λ (k : ℕ). Fills S.rebuild d p k) (sym (same_row t e)) u)))
         ])
 
 pub inside_some : (j : Option ℕ) (r n : ℕ) → j ≡ Some r → Inside j n → 64 + r < n

@@ -73,10 +73,10 @@ either true x y z e f g = f e
 either false x y z e f g = g e
 
 not_over : {P : Type 0} {a b : Ask} {r : Reply} {w v : List ℕ} {m : ℕ → ℕ} {g k : ℕ} → Over a r w g ≡ Under b v m k → P
-not_over e = absurd (let z : ◌≡◌ {A = ℕ} 0 1 = cc in omega arith)
+not_over e = cc
 
 not_free : {P : Type 0} {b : Ask} {v : List ℕ} {m : ℕ → ℕ} {k : ℕ} → Free ≡ Under b v m k → P
-not_free e = absurd (let z : ◌≡◌ {A = ℕ} 0 1 = cc in omega arith)
+not_free e = cc
 
 -- a tag whose way is another one now
 marked_way : (h : Seen) (t : ℕ) (x : Way) → ((a : Ask) (w : List ℕ) (m : ℕ → ℕ) (g : ℕ) → x ≡ Under a w m g → (i : ℕ) → m i ≤ h.count i) → Marked h → Marked (set_way t x h)

@@ -68,9 +68,6 @@ module _ (S : Super) (r : ℕ) (h : ℕ → List ℕ) (all : ℕ → Bool) {n s 
 
 -- ---- in its place
 
-some_same : {a b : ℕ} → Some a ≡ Some b → a ≡ b
-some_same e = cc
-
 module _ (S : Super) (r : ℕ) (h : ℕ → List ℕ) (sel : ℕ → Bool) (j : S.journal ≡ Some r) {n : ℕ} {x y : Shelf} {es fs : List Event} (w : Went n (Held sel S (64 + r) r) x es y fs) where
   sound_placing : (c : Columns) → Sound x S c → Sound y S c
   sound_placing c k = sound_went w S c (λ d p t b g v. absurd (home_placed S t r j v.0)) (λ d b v. let z = v.0 in absurd (omega arith)) k
@@ -86,7 +83,7 @@ module _ (S : Super) (r : ℕ) (h : ℕ → List ℕ) (sel : ℕ → Bool) (j : 
             record {
               sound = sound_placing c k;
               placed = λ d p t g e.
-                  let same : r ≡ t = some_same (sym j ∙ e) in
+                  let same : r ≡ t = cc in
                   subst (λ (z : ℕ). Shows y d (64 + z) (c z (index p z))) same
                   (let g' : Holds S d p r = subst (λ (z : ℕ). Holds S d p z) (sym same) g in
                   elim (cases_Bool (sel (index p r))) [

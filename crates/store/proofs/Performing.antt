@@ -1,6 +1,6 @@
 -- What a turn does for a tag, against what is seen: a read, a write, a flush, a size, and the power going meanwhile.
 -- Assumes nothing.
-use Rattle.std.proofs.Common.{◌≡◌, ℕ, ◌+◌, ◌-◌, ◌*◌, ◌/◌, ◌<◌, ◌≤◌, true, false, T, eqb, List, [], ◌∷◌, length, take, drop, Some, None, Option, sym, refl, ap, ◌∙◌, subst, inl, inr, arith, length-drop, length-take-le}
+use Rattle.std.proofs.Common.{◌≡◌, ℕ, ◌+◌, ◌-◌, ◌*◌, ◌/◌, ◌<◌, ◌≤◌, true, false, T, eqb, List, [], ◌∷◌, length, take, drop, Some, Option, sym, refl, ap, ◌∙◌, subst, inl, inr, arith, length-drop, length-take-le}
 use lib.Dec.{eqb_refl}
 use borrow.Rule.Slice.PartMut.{put_mid}
 use Rattle.std.proofs.lemmas.Slice.{between_is, take-put_mid_below}
@@ -43,13 +43,11 @@ pub record Asks (a : Ask) (w : List ℕ) (n : ℕ) (v : Way) : Type 0 where
   pub built : T (core a)
   pub fits : Reaches a n
 
-some_same : (a b : Ask) → Some a ≡ Some b → a ≡ b
-some_same a b e = cc
-
 asks_of : (o : Option Ask) (a : Ask) (w : List ℕ) (n : ℕ) (v : Way) → o ≡ Some a → Entry o w n v → Asks a w n v
-asks_of o a w n Free p e = absurd (let z : ◌≡◌ {A = Option Ask} None (Some a) = sym e ∙ p in let y : ◌≡◌ {A = ℕ} 0 1 = cc in omega arith)
+asks_of o a w n Free p e = cc
 asks_of o a w n (Under b u m g) p e =
-    subst (λ (c : Ask). Asks c w n (Under b u m g)) (some_same b a (sym e.0 ∙ p)) (record { m = m; g = g; is = ap (λ (z : List ℕ). Under b z m g) e.1; built = e.2; fits = e.3 })
+    let same : b ≡ a = cc in
+    subst (λ (c : Ask). Asks c w n (Under b u m g)) same (record { m = m; g = g; is = ap (λ (z : List ℕ). Under b z m g) e.1; built = e.2; fits = e.3 })
 asks_of o a w n (Over b r u g) p e = absurd e
 
 -- the store with another superblock in memory
@@ -69,7 +67,7 @@ module _ {s : Store} {room : List ℕ} {x : Shelf} {es : List Event} (v : Servin
   within {a} k = subst (λ (n : ℕ). Reaches a n) size_is k.fits
 
   module _ {t : ℕ} (l : t < 8) {a : Ask} {w : List ℕ} (k : Asks a w (size_of x.sectors v.h) (v.h.way t)) where
-    -- it is done: that was seen by then, and the tag is to be told
+    -- it is done with this reply, and is to be told with these words
     abbrev over : Reply → List ℕ → Seen → Seen
     over r back h = set_way t (Over a r back k.g) h
 

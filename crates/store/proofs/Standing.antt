@@ -52,9 +52,6 @@ home_above S r = ⊎_elim (λ u. rw u.1 (slot_low S.generation).0) (λ e. rw e (
 pub home_staged : (S : Super) (r : ℕ) → home S r ≡ slot (S.generation + 1) → ⊥
 home_staged S r q = ⊎_elim (λ u. slots_differ S.generation (sym u.1 ∙ q)) (λ e. omega (arith, sym e ∙ q, slot_low (S.generation + 1))) (home_cases S r)
 
-some_same : {a b : ℕ} → Some a ≡ Some b → a ≡ b
-some_same e = cc
-
 -- nor is the place of the journalled stripe
 pub home_placed : (S : Super) (r t : ℕ) → S.journal ≡ Some t → home S r ≡ 64 + t → ⊥
 unfolding home

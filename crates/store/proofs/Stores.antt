@@ -77,18 +77,23 @@ module _ {sel : ℕ → Bool} {ds : List ℕ} {s r n : ℕ} {h : ℕ → List �
 
 -- ---- whoever holds it
 
-module _ (sel : ℕ → Bool) (S : Super) (s r : ℕ) (h : ℕ → List ℕ) {x y : Shelf} {es fs : List Event} (k : Roster S.members) where
+-- a disk that is being filled costs one ask
+fills_extra : (R : Option Rebuild) (d p r : ℕ) → Fills R d p r → extra R ≡ 1
+fills_extra None d p r f = absurd f
+fills_extra (Some b) d p r f = refl
+
+module _ (sel : ℕ → Bool) (r : ℕ) {S : Super} {s : ℕ} {h : ℕ → List ℕ} {x y : Shelf} {es fs : List Event} (o : Proper S) where
   pub spread_held : {n : ℕ} → Went n (Spread sel S.members s r h) x es y fs → Went n (Held sel S s r) x es y fs
   spread_held w =
       went_wider (omega arith)
       (λ d t b v.
       let i = v.1.0 in
       let l = v.1.1 in
-      (v.0, (place i r, (inl (place_within (length S.members) i r k.least l.0, sym l.2), subst (λ (j : ℕ). T (sel j)) (sym (index-place i r)) l.1)))) w
+      (v.0, (place i r, (inl (place_within (length S.members) i r o.roster.least l.0, sym l.2), subst (λ (j : ℕ). T (sel j)) (sym (index-place i r)) l.1)))) w
 
   members_stored : Storing (length S.members) sel S.members s r h x es y fs → (d p : ℕ) → p < length S.members → get_or S.members p 0 ≡ d → T (sel (index p r)) → Shows y d s (h (index p r))
   members_stored m d p l e t =
-      let i = index_within (length S.members) p r k.least l in
+      let i = index_within (length S.members) p r o.roster.least l in
       subst (λ (f : ℕ). Shows y f s (h (index p r))) (ap (λ (q : ℕ). get_or S.members q 0) (place-index p r) ∙ e) (m.shows (index p r) i t)
 
   -- nobody is being filled so far, or its column isn't selected
@@ -96,24 +101,21 @@ module _ (sel : ℕ → Bool) (S : Super) (s r : ℕ) (h : ℕ → List ℕ) {x 
   stored_members m none d p g t = elim g [ inl u ↦ members_stored m d p u.0 u.1 t | inr u ↦ absurd (none d p u t) ]
 
   -- or it was written too
-  pub stored_fill : Proper S → Storing (length S.members) sel S.members s r h x es y fs → {z : Shelf} {gs : List Event} (at q : ℕ) (b : List ℕ) → Fills S.rebuild at q r → ((d p : ℕ) → Fills S.rebuild d p r → d ≡ at) →
-      Went 1 (Here at s b) y fs z gs → b ≡ h (index q r) → Shows z at s b → Stored sel S s r h z
-  stored_fill o m {z} at q b f one w e a d p g t =
-      elim (cases_eq d at) [
-        | inl i ↦
-            let same : p ≡ q = holds_once S o at p q r r (subst (λ (j : ℕ). Holds S j p r) i g) (inr f) in
-            subst (λ (j : ℕ). Shows z j s (h (index p r))) (sym i) (subst (λ (v : List ℕ). Shows z at s v) (e ∙ ap (λ (j : ℕ). h (index j r)) (sym same)) a)
-        | inr i ↦
-            elim g [
-              | inl u ↦ shows_went w d s (h (index p r)) (λ c v. i v.0) (members_stored m d p u.0 u.1 t)
-              | inr u ↦ absurd (i (one d p u))
-            ]
-      ]
+  module _ {z : Shelf} {gs : List Event} {at : ℕ} (q : ℕ) {b : List ℕ} (f : Fills S.rebuild at q r) (w : Went 1 (Here at s b) y fs z gs) where
+    pub spread_fill : {n : ℕ} → Went n (Spread sel S.members s r h) x es y fs → T (sel (index q r)) → Went (n + extra S.rebuild) (Held sel S s r) x es z gs
+    spread_fill m t =
+        went_longer (omega (arith, fills_extra S.rebuild at q r f))
+        (went_then (spread_held m) (went_wider {n = 1} (omega arith) (λ d u c v. (v.1, (q, (inr (subst (λ (e : ℕ). Fills S.rebuild e q r) (sym v.0) f), t)))) w))
 
--- a disk that is being filled costs one ask, and holds what it is asked to
-pub fills_extra : (R : Option Rebuild) (d p r : ℕ) → Fills R d p r → extra R ≡ 1
-fills_extra None d p r f = absurd f
-fills_extra (Some b) d p r f = refl
-
-pub fill_held : (sel : ℕ → Bool) (S : Super) (s r at p : ℕ) (b : List ℕ) {x y : Shelf} {es fs : List Event} → Fills S.rebuild at p r → T (sel (index p r)) → Went 1 (Here at s b) x es y fs → Went 1 (Held sel S s r) x es y fs
-fill_held sel S s r at p b f t w = went_wider {n = 1} (omega arith) (λ d u c v. (v.1, (p, (inr (subst (λ (e : ℕ). Fills S.rebuild e p r) (sym v.0) f), t)))) w
+    pub stored_fill : Storing (length S.members) sel S.members s r h x es y fs → ((d p : ℕ) → Fills S.rebuild d p r → d ≡ at) → b ≡ h (index q r) → Shows z at s b → Stored sel S s r h z
+    stored_fill m one e a d p g t =
+        elim (cases_eq d at) [
+          | inl i ↦
+              let same : p ≡ q = holds_once S o at p q r r (subst (λ (j : ℕ). Holds S j p r) i g) (inr f) in
+              subst (λ (j : ℕ). Shows z j s (h (index p r))) (sym i) (subst (λ (v : List ℕ). Shows z at s v) (e ∙ ap (λ (j : ℕ). h (index j r)) (sym same)) a)
+          | inr i ↦
+              elim g [
+                | inl u ↦ shows_went w d s (h (index p r)) (λ c v. i v.0) (members_stored m d p u.0 u.1 t)
+                | inr u ↦ absurd (i (one d p u))
+              ]
+        ]

@@ -1,6 +1,6 @@
 -- The end of a turn: who isn't told waits one turn less, and none waits longer than eight.
 -- Assumes nothing.
-use Rattle.std.proofs.Common.{◌≡◌, ℕ, zero, suc, ◌+◌, ◌-◌, ◌*◌, ◌%◌, ◌<◌, ◌≤◌, Bool, true, false, cond, ◌&&◌, T, eqb, List, ◌∷◌, length, set, Some, None, Option, sym, refl, ap, ◌∙◌, subst, inl, inr, arith, lt→ltb, get_or-set_other, get_or-set_same}
+use Rattle.std.proofs.Common.{◌≡◌, ℕ, zero, suc, ◌+◌, ◌-◌, ◌*◌, ◌%◌, ◌<◌, ◌≤◌, Bool, true, false, cond, ◌&&◌, T, eqb, List, ◌∷◌, length, set, None, Option, sym, refl, ap, ◌∙◌, subst, inl, inr, arith, lt→ltb, get_or-set_other, get_or-set_same}
 use Rattle.std.proofs.lemmas.Bool.{cases_eq, cases_lt, eq-eqb, ne_eqb, cond-true, cond-false}
 use Rattle.field.specs.Stripe.{column}
 use Rattle.store.specs.Event.{Event, Turned, Told}
@@ -48,7 +48,7 @@ entry_older o w n (Over a r u g) e = e
 
 entry_open : (o : Option Ask) (w : List ℕ) (n : ℕ) (v : Way) → Entry o w n v → o ≡ None → v ≡ Free
 entry_open o w n Free e q = refl
-entry_open o w n (Under a u m g) e q = absurd (let z : ◌≡◌ {A = Option Ask} None (Some a) = sym q ∙ e.0 in let y : ◌≡◌ {A = ℕ} 0 1 = cc in omega arith)
+entry_open o w n (Under a u m g) e q = cc
 entry_open o w n (Over a r u g) e q = absurd e
 
 waits_older : (j k : ℕ) (v : Way) → j < k → Waits v k → Waits (older v) j

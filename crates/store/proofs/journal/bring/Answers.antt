@@ -1,8 +1,8 @@
 use Rattle.std.proofs.Common.{refl, inl, inr, arith}
 use Rattle.layout.specs.Super.{says}
-use Rattle.store.proofs.Laws.{went_none, went_then, went_longer, went_wider}
+use Rattle.store.proofs.Laws.{went_none, went_longer}
 use Rattle.store.proofs.Standing.{slot_low}
-use Rattle.store.proofs.Carried.{level_across, brought_members, brought_fill, slot_apart, inside_some, fills_of, fills_by, fills_none}
+use Rattle.store.proofs.Carried.{level_across, across_then, brought_members, brought_fill, slot_apart, inside_some, fills_of, fills_by, fills_none}
 use Rattle.store.proofs.journal.bring.Goals as goal
 
 pub returns-in_default-clause-went : goal.returns-in_default-clause-went
@@ -35,16 +35,13 @@ carry-requires g c =
 
 pub returns-in_err-carry-clause-went : goal.returns-in_err-carry-clause-went
 returns-in_err-carry-clause-went g c =
-    let S = says c.args.b.now in
-    went_then (level_across S c.slot_of-from.ensures c.in-Some.is c.carry_all.ensures.went)
-    (level_across S c.slot_of-from.ensures c.in-Some.is (went_wider {n = 2} (omega arith) (λ d s a v. v.1) c.carry.ensures.went))
+    across_then (says c.args.b.now) c.slot_of-from.ensures c.in-Some.is c.carry_all.ensures.went c.carry.ensures.went
 
 pub returns-in_ok-carry : goal.returns-in_ok-carry
 returns-in_ok-carry g c =
     let S = says c.args.b.now in
     record {
-      went = went_then (level_across S c.slot_of-from.ensures c.in-Some.is c.carry_all.ensures.went)
-          (level_across S c.slot_of-from.ensures c.in-Some.is (went_wider {n = 2} (omega arith) (λ d s a v. v.1) c.carry.ensures.went));
+      went = across_then S c.slot_of-from.ensures c.in-Some.is c.carry_all.ensures.went c.carry.ensures.went;
       how = (
         λ _. c.in_ok-carry.ensures.how.0,
         brought_fill S c.slot_of-from.ensures c.in-Some.is c.in_ok-carry_all.ensures.how c.in-Some-rebuild.fill.disk
@@ -57,11 +54,8 @@ returns-else-r-fill g c =
     let S = says c.args.b.now in
     record {
       went = went_longer (omega arith) (level_across S c.slot_of-from.ensures c.in-Some.is c.carry_all.ensures.went);
-      how = (
-        c.in_ok-carry_all.ensures.how.lit,
-        brought_members S c.slot_of-from.ensures c.in-Some.is c.in_ok-carry_all.ensures.how
-            (λ d p f. let l = (fills_of c.args.b.now.rebuild c.in-Some-rebuild.fill d p c.in-Some.r c.in-Some-rebuild.is f).2 in omega (arith, l, c.if-r-fill.false)),
-      );
+      how = brought_members S c.slot_of-from.ensures c.in-Some.is c.in_ok-carry_all.ensures.how
+          (λ d p f. let l = (fills_of S.rebuild c.in-Some-rebuild.fill d p c.in-Some.r c.in-Some-rebuild.is f).2 in omega (arith, l, c.if-r-fill.false));
     }
 
 pub returns-in_default-rebuild : goal.returns-in_default-rebuild
@@ -69,9 +63,5 @@ returns-in_default-rebuild g c =
     let S = says c.args.b.now in
     record {
       went = went_longer (omega arith) (level_across S c.slot_of-from.ensures c.in-Some.is c.carry_all.ensures.went);
-      how = (
-        c.in_ok-carry_all.ensures.how.lit,
-        brought_members S c.slot_of-from.ensures c.in-Some.is c.in_ok-carry_all.ensures.how
-            (λ d p f. fills_none c.args.b.now.rebuild d p c.in-Some.r c.in_default-rebuild.is f),
-      );
+      how = brought_members S c.slot_of-from.ensures c.in-Some.is c.in_ok-carry_all.ensures.how (λ d p f. fills_none S.rebuild d p c.in-Some.r c.in_default-rebuild.is f);
     }

@@ -6,15 +6,13 @@ use Rattle.layout.specs.Places.{index}
 use Rattle.store.specs.Keeping.{Fills}
 use Rattle.store.specs.Stripes.{chosen}
 use Rattle.store.proofs.Standing.{holds_once}
-use Rattle.store.proofs.Laws.{went_then, went_longer}
+use Rattle.store.proofs.Laws.{went_longer}
 use Rattle.store.proofs.Truths.{true-T}
-use Rattle.store.proofs.Stores.{spread_held, stored_members, stored_fill, fills_extra, fill_held}
+use Rattle.store.proofs.Stores.{spread_held, spread_fill, stored_members, stored_fill}
 use Rattle.store.proofs.stripe.store.Goals as goal
 
 pub returns-in_err-store_members-clause-went : goal.returns-in_err-store_members-clause-went
-returns-in_err-store_members-clause-went g c =
-    let S = says c.args.b.now in
-    went_longer (omega arith) (spread_held (chosen c.args.which.now) S c.args.row.sector c.args.row.stripe (held c.args.stripe.now) c.requires.proper.roster c.store_members.ensures.went)
+returns-in_err-store_members-clause-went g c = went_longer (omega arith) (spread_held _ _ c.requires.proper c.store_members.ensures.went)
 
 pub has-requires : goal.has-requires
 has-requires g c =
@@ -23,44 +21,29 @@ has-requires g c =
 -- the column of the disk that is being filled
 pub returns-in_err-write_column-clause-went : goal.returns-in_err-write_column-clause-went
 returns-in_err-write_column-clause-went g c =
-    let S = says c.args.b.now in
-    let sel = chosen c.args.which.now in
     let f = c.in-Some.ensures in
-    went_longer (omega (arith, fills_extra c.args.b.now.rebuild c.in-Some.share.disk f.0 c.args.row.stripe f.1.0))
-    (went_then (spread_held sel S c.args.row.sector c.args.row.stripe (held c.args.stripe.now) c.requires.proper.roster c.store_members.ensures.went)
-    (fill_held sel S c.args.row.sector c.args.row.stripe c.in-Some.share.disk f.0 _ f.1.0 (true-T (ap sel (sym f.1.1) ∙ sym c.if-has.ensures)) c.write_column.ensures.went))
+    spread_fill _ _ c.requires.proper f.0 f.1.0 c.write_column.ensures.went c.store_members.ensures.went (true-T (ap (chosen c.args.which.now) (sym f.1.1) ∙ sym c.if-has.ensures))
 
 pub returns-in_ok-write_column : goal.returns-in_ok-write_column
 returns-in_ok-write_column g c =
-    let S = says c.args.b.now in
-    let sel = chosen c.args.which.now in
-    let h = held c.args.stripe.now in
     let f = c.in-Some.ensures in
     let w = c.in_ok-write_column.ensures.how in
     record {
-      went =
-          went_longer (omega (arith, fills_extra c.args.b.now.rebuild c.in-Some.share.disk f.0 c.args.row.stripe f.1.0))
-          (went_then (spread_held sel S c.args.row.sector c.args.row.stripe h c.requires.proper.roster c.store_members.ensures.went)
-          (fill_held sel S c.args.row.sector c.args.row.stripe c.in-Some.share.disk f.0 _ f.1.0 (true-T (ap sel (sym f.1.1) ∙ sym c.if-has.ensures)) c.write_column.ensures.went));
-      how = (
-        λ _. w.0,
-        stored_fill sel S c.args.row.sector c.args.row.stripe h c.requires.proper.roster c.requires.proper c.in_ok-store_members.ensures.how c.in-Some.share.disk f.0 _ f.1.0 f.1.3 c.write_column.ensures.went
-            (ap h f.1.1) w.1,
-      );
+      went = spread_fill _ _ c.requires.proper f.0 f.1.0 c.write_column.ensures.went c.store_members.ensures.went (true-T (ap (chosen c.args.which.now) (sym f.1.1) ∙ sym c.if-has.ensures));
+      how = (λ _. w.0, stored_fill _ _ c.requires.proper f.0 f.1.0 c.write_column.ensures.went c.in_ok-store_members.ensures.how f.1.3 (ap (held c.args.stripe.now) f.1.1) w.1);
     }
 
 pub returns-else-has : goal.returns-else-has
 returns-else-has g c =
     let S = says c.args.b.now in
     let sel = chosen c.args.which.now in
-    let h = held c.args.stripe.now in
     let f = c.in-Some.ensures in
     let m = c.in_ok-store_members.ensures.how in
     record {
-      went = went_longer (omega arith) (spread_held sel S c.args.row.sector c.args.row.stripe h c.requires.proper.roster c.store_members.ensures.went);
+      went = went_longer (omega arith) (spread_held _ _ c.requires.proper c.store_members.ensures.went);
       how = (
         m.lit,
-        stored_members sel S c.args.row.sector c.args.row.stripe h c.requires.proper.roster m
+        stored_members _ _ c.requires.proper m
             (λ d p q t.
             let same : p ≡ f.0 = holds_once S c.requires.proper d p f.0 c.args.row.stripe c.args.row.stripe (inr q) (inr (subst (λ (e : ℕ). Fills c.args.b.now.rebuild e f.0 c.args.row.stripe) (sym (f.1.3 d p q)) f.1.0)) in
             subst T (ap sel (ap (λ (k : ℕ). index k c.args.row.stripe) same ∙ sym f.1.1) ∙ sym c.if-has.ensures) t),
@@ -69,11 +52,8 @@ returns-else-has g c =
 
 pub returns-in_default : goal.returns-in_default
 returns-in_default g c =
-    let S = says c.args.b.now in
-    let sel = chosen c.args.which.now in
-    let h = held c.args.stripe.now in
     let m = c.in_ok-store_members.ensures.how in
     record {
-      went = went_longer (omega arith) (spread_held sel S c.args.row.sector c.args.row.stripe h c.requires.proper.roster c.store_members.ensures.went);
-      how = (m.lit, stored_members sel S c.args.row.sector c.args.row.stripe h c.requires.proper.roster m (λ d p q t. c.in_default.ensures d p q));
+      went = went_longer (omega arith) (spread_held _ _ c.requires.proper c.store_members.ensures.went);
+      how = (m.lit, stored_members _ _ c.requires.proper m (λ d p q t. c.in_default.ensures d p q));
     }
