@@ -9,7 +9,8 @@ ghost use Rattle.memory.specs.declared.platter.Platter.{Platter};
 
 use crate::{BLANK, Cell};
 
-// The cells, and how many of them were written since the last sync.
+// The cells, and how many of them were written since the last sync. A place among the cells is a number, which can't know how many there are,
+// so that it is one of them is required where a cell is looked at.
 #[derive(Drop)]
 pub struct Platter<'a> {
     cells: &'a mut [Cell],

@@ -1,7 +1,8 @@
 // Stripes, from the members and to them: one sector of each, at a stripe's place or in a journal slot. Members that are dead are
 // gone on from, and up to two columns that are missing are had again from the others.
 //
-// It asks the disks of the members that it is given, at the one sector that it is given.
+// It asks the disks of the members that it is given, at the one sector that it is given. What is required of the disks stands in each contract,
+// mostly with the members: the disks are the caller's type, of which the trait tells a shelf.
 ghost use Rattle.std.specs.Prelude.{◌≡◌, ℕ, ◌+◌, ◌<◌, ◌≤◌, Bool, true, false, length, MatchResult, slice_index};
 ghost use Rattle.field.specs.Stripe.{held};
 ghost use Rattle.layout.specs.Super.{says, Proper, Joins};

@@ -1,7 +1,8 @@
 // A stripe that is to be written, as a value: begun, it is loaded and takes sectors; ended, it lies in the journal and a superblock
 // says so; only what that hands out allows to store it in its place. Dropped before that, nothing was written since.
 //
-// It asks the disks of the members and of the disk that is being filled, at the stripe's place, in the journal slot and at sector 0.
+// It asks the disks of the members and of the disk that is being filled, at the stripe's place, in the journal slot and at sector 0. That there
+// is a next generation is required where one is begun, and is no invariant of a superblock: what is read from a disk may say any.
 ghost use Rattle.std.specs.Prelude.{◌≡◌, ℕ, ◌+◌, ◌^◌, ◌<◌, ◌≤◌, Bool, true, false, length, replicate, Some, MatchResult, slice_set};
 ghost use Rattle.field.specs.Stripe.{held, Few, Put};
 ghost use Rattle.layout.specs.Super.{says};
