@@ -35,7 +35,7 @@ pub record Home (n k s r j : ℕ) : Type 0 where
   pub lies : (j ≡ column_of (n - 64) s) × (r ≡ stripe_of (n - 64) s)
 
 module _ {n k s r j : ℕ} (at : Home n k s r j) where
-  pub some : 64 < n
+  some : 64 < n
   some = grind (arith, at.size)
 
   pub at_stripe : 64 + r < n
