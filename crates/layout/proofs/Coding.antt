@@ -46,8 +46,3 @@ encoded S w e =
 pub unmarked_says : (w : List ℕ) → (get_or w 0 0 ≡ mark → ⊥) → super_of w ≡ blank
 unfolding super_of
 unmarked_says w n = grind (arith, nat_tests)
-
--- superblocks that say the same in each part
-pub parts_same : (g : ℕ) (ms ns : List ℕ) (q r : Option Rebuild) (i j : Option ℕ) → ms ≡ ns → q ≡ r → i ≡ j →
-    ◌≡◌ {A = Super} (record { generation = g; members = ms; rebuild = q; journal = i }) (record { generation = g; members = ns; rebuild = r; journal = j })
-parts_same g ms ns q r i j a b c = rw (a, b, c)
