@@ -16,7 +16,7 @@
 //
 // Anything else is a step at which nothing is asked. A tag or a disk that doesn't fit 32 bits counts as 4294967295.
 ghost use Rattle.std.specs.Prelude.{◌≡◌, ◌+◌, ◌<◌, ◌≤◌, None, IfSome, length, drop, min, slice_index};
-ghost use Rattle.memory.specs.Steps.{step_of};
+ghost use Rattle.memory.specs.Steps.{step_of, rest_after};
 
 use crate::fate::Fate;
 use store::Ask;
@@ -89,7 +89,9 @@ impl<'a> Script<'a> {
     pub fn next_step(&mut self) -> Option<Step>
         ensures rests { 0 < self.old.rest → (result ≡ None) × ((self.new.ahead.now ≡ self.old.ahead.now) × (self.new.rest + 1 ≡ self.old.rest)) }
         ensures step { IfSome result (λ s. (4 ≤ length self.old.ahead.now) × ((s ≡ step_of (slice_index self.old.ahead.now 0) (slice_index self.old.ahead.now 1) (slice_index self.old.ahead.now 2) (slice_index self.old.ahead.now 3)) × (self.new.ahead.now ≡ drop 4 self.old.ahead.now))) }
-        ensures ends { result ≡ None → self.old.rest ≡ 0 → length self.old.ahead.now < 4 }
+        ensures then { IfSome result (λ s. self.new.rest ≡ rest_after s) }
+        ensures ends { result ≡ None → self.old.rest ≡ 0 → (length self.old.ahead.now < 4) × (self.new ≡ self.old) }
+        ensures words { self.new.words.now ≡ self.old.words.now }
     {
         if self.rest > 0 {
             self.rest -= 1;
