@@ -66,6 +66,10 @@ pub fn try_mend(stripe: &mut [u64], k: usize, a: usize, b: usize) -> Result<(), 
     if a >= b || b >= k {
         return Err(Misfit);
     }
+    // P and Q are made anew where they lie.
+    if b < 2 {
+        return try_make_parity(stripe, k);
+    }
     let mut room = [[0; 64]; 12];
     let whole = &mut room[..k];
     whole.copy_from_slice(columns);

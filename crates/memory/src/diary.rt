@@ -93,7 +93,8 @@ impl<'a> Diary<'a> {
     // Nothing was seen yet.
     #[tactic(auto, unfolding(crate::specs::Words::events_of, crate::specs::Words::latest))]
     pub fn new(words: &'a mut [u64]) -> Diary<'a>
-        ensures { seen_of result ≡ [] }
+        ensures unseen { seen_of result ≡ [] }
+        ensures empty { result.noted ≡ 0 }
     {
         Diary { words, noted: 0 }
     }
@@ -103,7 +104,8 @@ impl Diary<'_> {
     // Nothing was seen, as `new` has it.
     #[tactic(auto, unfolding(crate::specs::Words::events_of, crate::specs::Words::latest))]
     pub fn clear(&mut self)
-        ensures { seen_of self.new ≡ [] }
+        ensures unseen { seen_of self.new ≡ [] }
+        ensures empty { self.new.noted ≡ 0 }
     {
         self.noted = 0;
     }

@@ -47,7 +47,7 @@ impl Platter<'_> {
         ensures size { length self.new.cells.now ≡ length self.old.cells.now }
     {
         self.cells.fill(BLANK);
-        self.forget();
+        self.truncate(0);
     }
 
     // How many sectors each disk has.
@@ -134,11 +134,11 @@ impl Platter<'_> {
         self.lay(at, shown, words);
     }
 
-    // What is shown lasts: nothing is listed any more.
-    pub fn forget(&mut self)
-        ensures { self.new ≡ listing 0 self.old }
+    // Only the first so many stay listed: what is shown of all others lasts.
+    pub fn truncate(&mut self, listed: usize)
+        ensures { self.new ≡ listing listed self.old }
     {
-        self.written = 0;
+        self.written = listed;
     }
 
     // What a cut leaves of the i-th cell that is listed: what was there at the last sync, if the seed draws so, or what is shown.
@@ -165,6 +165,6 @@ impl Platter<'_> {
         for i in 0..self.written.min(self.cells.len()) {
             self.choose_one(i, seed);
         }
-        self.forget();
+        self.truncate(0);
     }
 }

@@ -1,8 +1,10 @@
 -- What a turn does for a tag, against what is seen: a read, a write, a flush, a size, and the power going meanwhile.
 -- Assumes nothing.
-use Rattle.std.proofs.Common.{◌≡◌, ℕ, ◌+◌, ◌-◌, ◌*◌, ◌/◌, ◌<◌, ◌≤◌, true, false, T, eqb, List, [], ◌∷◌, length, take, drop, Some, Option, sym, refl, ap, ◌∙◌, subst, inl, inr, arith, length-drop, length-take-le}
+use Rattle.std.proofs.Common.{◌≡◌, ℕ, ◌+◌, ◌-◌, ◌*◌, ◌/◌, ◌<◌, ◌≤◌, true, false, T, eqb, List, [], ◌∷◌, length, get_or, take, drop, Some, Option, sym, refl, ap, ◌∙◌, subst, inl, inr, arith, length-drop, length-take-le}
 use lib.Dec.{eqb_refl}
 use borrow.Rule.Slice.PartMut.{put_mid}
+use Rattle.std.specs.Simd.{first_chunks}
+use Rattle.std.proofs.lemmas.List.{take_all}
 use Rattle.std.proofs.lemmas.Slice.{between_is, take-put_mid_below}
 use Rattle.std.proofs.lemmas.Bool.{cases_eq, eq-eqb, ne_eqb, cond-true, cond-false}
 use Rattle.field.specs.Stripe.{column}
@@ -187,6 +189,10 @@ tags_kept m room ys h t l =
     let below = take-put_mid_below 512 m room ys (64 * t + 64) (omega arith) (omega arith) in
     subst (λ (z : ℕ). take z (drop (64 * t) (put_mid 512 m room ys)) ≡ take z (drop (64 * t) room)) j
     (between_is (put_mid 512 m room ys) (64 * t) (64 * t + 64) ∙ (ap (drop (64 * t)) below ∙ sym (between_is room (64 * t) (64 * t + 64))))
+
+-- The first chunk of the words of a sector is all of them.
+pub first_chunk : (words : List ℕ) (chunks : List (List ℕ)) (n : ℕ) → length words ≡ 64 → n ≡ 1 → chunks ≡ first_chunks 64 n words → get_or chunks 0 [] ≡ words
+first_chunk words chunks n l e is = ap (λ (x : List (List ℕ)). get_or x 0 []) (is ∙ ap (λ (m : ℕ). first_chunks 64 m words) e) ∙ take_all 64 words (omega arith)
 
 -- the part of the room behind them that a stripe of k columns has
 stripe_room : (k m : ℕ) (room : List ℕ) → k ≡ m → m ≤ 12 → length room ≡ 65536 → length (take (512 + 64 * k - 512) (drop 512 room)) ≡ 64 * m

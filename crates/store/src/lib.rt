@@ -31,11 +31,12 @@ mod write;
 use layout::Superblock;
 use recovery::come_up;
 pub use refusal::Refusal;
+pub use tags::Tag;
 use tags::Tags;
 
 // The types and traits below, `serve` and `years` are the text by which the promise is given, and stay to the letter: why something is
 // refused is a number there, what is noted answers by a bool, `serve` and `years` count their turns and lives by hand and lend slices, whose
-// lengths each contract names, and `open` is lent a room that it does not need.
+// lengths each contract names.
 
 // What a disk answers. Dead: it has died, for ever. Dark: the power has gone, and every disk answers so from then on.
 #[derive(Clone, Copy)]
@@ -150,8 +151,8 @@ pub fn open<D: Disks>(d: &mut D, room: &mut [u64]) -> Result<Store, Gone>
     ensures spent { (D.shelf d.old).left ≤ (D.shelf d.new).left + 46 }
 {
     let mut best = [0; 64];
-    let mut other = [0; 64];
-    let superblock = come_up(d, &mut best, &mut other)?;
+    let (sectors, _) = room.as_chunks_mut::<64>();
+    let superblock = come_up(d, &mut best, &mut sectors[0])?;
     Ok(Store {
         sectors: d.sectors(),
         superblock,

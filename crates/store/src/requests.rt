@@ -73,12 +73,11 @@ impl Store {
             }
             Ask::Write(s) => {
                 let at = 64 * tag.index();
-                let mut sector = [0; 64];
-                sector.copy_from_slice(&room[at..at + 64]);
+                words.copy_from_slice(&room[at..at + 64]);
+                let (sectors, _) = words.as_chunks::<64>();
                 let (columns, _) = room[512..end].as_chunks_mut::<64>();
                 let b = &mut self.superblock;
-                write(d, b, self.sectors, s, &sector, columns)?;
-                words.copy_from_slice(&sector);
+                write(d, b, self.sectors, s, &sectors[0], columns)?;
                 Ok(Reply::Done)
             }
             Ask::Flush => Ok(Reply::Done),

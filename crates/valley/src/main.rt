@@ -12,7 +12,7 @@ ghost use Rattle.std.specs.Prelude.{◌≡◌, ℕ, ◌+◌, ◌-◌, ◌^◌, m
 ghost use Rattle.script.specs.Meaning.{command_of};
 ghost use Rattle.valley.specs.Lines.{newlines, unended};
 
-use line::{Line, keep};
+use line::{Line, fill};
 use memory::{BLANK, Memory};
 use script::{Command, parse};
 use std::io;
@@ -49,14 +49,12 @@ impl<P: Print> Village<'_, P> {
     {
         let mut number = first;
         let mut rest = bytes;
-        while let Some(n) = rest.iter().position(|&b| b == b'\n') {
-            keep(line, &rest[..n]);
+        while let Some(behind) = fill(line, rest) {
             self.answer(line, number)?;
             line.clear();
             number = number.saturating_add(1);
-            rest = &rest[n + 1..];
+            rest = behind;
         }
-        keep(line, rest);
         Ok(number)
     }
 

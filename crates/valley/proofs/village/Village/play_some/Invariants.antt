@@ -3,8 +3,8 @@ use Rattle.valley.specs.Lines.{newlines, unended}
 use Rattle.valley.proofs.Plays.{Begun}
 use Rattle.valley.proofs.village.Village.play_some.Given as goal
 
-abbrev pub invariant-loop-n : goal.invariant-loop-n
-invariant-loop-n g l =
+abbrev pub invariant-loop-behind : goal.invariant-loop-behind
+invariant-loop-behind g l =
     record {
       small : l.number < 2 ^ 64;
       within : length l.rest ≤ length l.bytes;
@@ -12,5 +12,5 @@ invariant-loop-n g l =
       begun : (begun : List ℕ) → l.initial.line.items ≡ take 256 begun → Begun l.line.items l.rest (unended begun l.bytes);
     }
 
-abbrev pub decreases-loop-n : goal.decreases-loop-n
-decreases-loop-n g l = length l.rest
+abbrev pub decreases-loop-behind : goal.decreases-loop-behind
+decreases-loop-behind g l = length l.rest
