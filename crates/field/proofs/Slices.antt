@@ -1,6 +1,6 @@
 -- The stripe that lies in a slice of columns, and the one in a slice of words.
 -- Assumes nothing.
-use Rattle.std.proofs.Common.{◌≡◌, ℕ, ◌+◌, ◌-◌, ◌<◌, ◌≤◌, List, length, get_or, set, sym, ◌∙◌, subst, inl, inr, arith}
+use Rattle.std.proofs.Common.{◌≡◌, ℕ, ◌+◌, ◌-◌, ◌<◌, ◌≤◌, List, length, get_or, set, sym, ap, ◌∙◌, subst, inl, inr, arith}
 use Rattle.std.proofs.lemmas.Bool.{cases_lt, cases_eq}
 use Rattle.std.proofs.lemmas.List.{get_or_past, get_or-set_same, get_or-set_other, get_or_default, length-set}
 use Rattle.field.specs.Column.{Sector, noughts, Good, IsP, IsQ}
@@ -21,6 +21,9 @@ held_at s i d h = get_or_default s i d noughts h
 pub written : (i : ℕ) (w : Sector) (s : List Sector) → i < length s → Written i w (held s) (held (set s i w))
 unfolding held
 written i w s h = record { here = get_or-set_same s i w noughts h; others = λ e ne. get_or-set_other s i e w noughts ne }
+
+pub written_as : (i : ℕ) (w : Sector) (s t : List Sector) → i < length s → t ≡ set s i w → Written i w (held s) (held t)
+written_as i w s t h e = subst (λ (r : List Sector). Written i w (held s) (held r)) (sym e) (written i w s h)
 
 -- columns of 64 words that fit are good, and so is what lies behind them
 pub good_held : (s : List Sector) → ((i : ℕ) → i < length s → Good (held s i)) → (i : ℕ) → Good (held s i)
@@ -47,6 +50,11 @@ anew s p q few is_p is_q h =
         | inr ge ↦ let e : 2 + (i - 2) ≡ i = omega arith in subst Good (sym (others i ge)) (subst (λ (n : ℕ). Good (held s n)) e (h (i - 2)))
       ],
     )
+
+pub anew_as : (s u t : List Sector) (p q : Sector) → 2 ≤ length s → u ≡ set s 0 p → t ≡ set u 1 q → IsP (length s - 2) (data_of (held s)) p → IsQ (length s - 2) (data_of (held s)) q → ((j : ℕ) → Good (held s (2 + j)))
+    → Anew (length s) (held s) (held t) × ((i : ℕ) → Good (held t i))
+anew_as s u t p q few e f is_p is_q h =
+    subst (λ (r : List Sector). Anew (length s) (held s) (held r) × ((i : ℕ) → Good (held r i))) (sym (f ∙ ap (λ (r : List Sector). set r 1 q) e)) (anew s p q few is_p is_q h)
 
 -- the codeword that lies there is what's held
 pub held_is : (k : ℕ) (s : List Sector) (c : ℕ → Sector) → length s ≤ k → Codeword k c → Lies k (held s) c → (i : ℕ) → held s i ≡ c i

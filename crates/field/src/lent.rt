@@ -1,12 +1,13 @@
 // Stripes in one slice of words, one column behind the other, as programs in C and Rust lend them. No proof holds such a caller to a
 // contract, so what doesn't fit is refused. Nothing is touched but the words that are lent. The crate `field_c` exports these calls.
-ghost use Rattle.std.specs.Prelude.{◌≡◌, ◌+◌, ◌-◌, ◌*◌, ◌<◌, ◌≤◌, length, Some, IfOk, OnOk, OnErr, codes};
+ghost use Rattle.std.specs.Prelude.{◌≡◌, ◌↔◌, ◌-◌, ◌*◌, Some, IsTrue, IfOk, OnOk, OnErr, codes};
 ghost use Rattle.field.specs.Column.{IsP, IsQ};
-ghost use Rattle.field.specs.Stripe.{column, data_of, Cut, Written, Anew, MendsTwo};
+ghost use Rattle.field.specs.Stripe.{column, data_of, Few, Cut, Anew, MendsTwo};
 
 use crate::column::Sector;
-use crate::raising::{Shifts, Table};
-use crate::stripe::{mend_two, parity};
+use crate::part::Part;
+use crate::raising::Table;
+use crate::stripe::{make_parity, mend_two, parity};
 use std::error::Error;
 use std::fmt;
 
@@ -24,23 +25,21 @@ impl fmt::Display for Misfit {
 
 impl Error for Misfit {}
 
+// Whether so many words are a stripe of k columns.
+fn fits(words: usize, k: usize) -> bool
+    ensures { IsTrue result ↔ Few k × (words ≡ 64 * k) }
+{
+    4 <= k && k <= 12 && words == 64 * k
+}
+
 // The columns of a stripe of k.
 fn columns_of(stripe: &[u64], k: usize) -> Result<&[Sector], Misfit>
     ensures { IfOk result (λ columns. Cut k stripe.now columns.now) }
 {
-    if k < 4 || k > 12 || stripe.len() != 64 * k {
+    if !fits(stripe.len(), k) {
         return Err(Misfit);
     }
-    let (columns, _) = stripe.as_chunks::<64>();
-    Ok(columns)
-}
-
-// Column i anew. Columns that `as_chunks_mut` lends would be known no more once they are given back, so they are written one by one.
-fn write(stripe: &mut [u64], i: usize, words: &Sector)
-    requires { (i < 12) × (64 * i + 64 ≤ length stripe.old) }
-    ensures { Written i words.now (λ e. column e stripe.old) (λ e. column e stripe.new) }
-{
-    stripe[64 * i..64 * i + 64].copy_from_slice(words);
+    Ok(u64::columns(stripe))
 }
 
 // P and Q anew, in a stripe of k columns.
@@ -48,12 +47,10 @@ pub fn try_make_parity(stripe: &mut [u64], k: usize) -> Result<(), Misfit>
     ensures made { OnOk result (Anew k (λ i. column i stripe.old) (λ i. column i stripe.new)) }
     ensures refused { OnErr result (stripe.new ≡ stripe.old) }
 {
-    let columns = columns_of(stripe, k)?;
-    let mut p = [0; 64];
-    let mut q = [0; 64];
-    let _ = parity::<Shifts>(columns, &mut p, &mut q);
-    write(stripe, 0, &p);
-    write(stripe, 1, &q);
+    if !fits(stripe.len(), k) {
+        return Err(Misfit);
+    }
+    let _ = make_parity(stripe);
     Ok(())
 }
 
@@ -62,20 +59,13 @@ pub fn try_mend(stripe: &mut [u64], k: usize, a: usize, b: usize) -> Result<(), 
     ensures made { OnOk result (MendsTwo k a b (λ i. column i stripe.old) (λ i. column i stripe.new)) }
     ensures refused { OnErr result (stripe.new ≡ stripe.old) }
 {
-    let columns = columns_of(stripe, k)?;
+    if !fits(stripe.len(), k) {
+        return Err(Misfit);
+    }
     if a >= b || b >= k {
         return Err(Misfit);
     }
-    // P and Q are made anew where they lie.
-    if b < 2 {
-        return try_make_parity(stripe, k);
-    }
-    let mut room = [[0; 64]; 12];
-    let whole = &mut room[..k];
-    whole.copy_from_slice(columns);
-    let _ = mend_two(whole, a, b);
-    write(stripe, a, &whole[a]);
-    write(stripe, b, &whole[b]);
+    let _ = mend_two(stripe, a, b);
     Ok(())
 }
 

@@ -1,5 +1,5 @@
-// A stripe of 4 to 12 columns: column 0 is P, 1 is Q, 2 + j is data column j.
-// It touches nothing but the columns that it is lent, and tells its steps: each sum and each doubling of a word is one.
+// A stripe of 4 to 12 columns, in a slice of columns or of words: column 0 is P, 1 is Q, 2 + j is data column j.
+// It touches nothing but the slice that it is lent, and tells its steps: each sum and each doubling of a word is one.
 //
 // That there are 4 to 12 columns stands in each contract: a struct round the slice that is lent would have to promise in each method, in
 // place of that, that it still holds the same slice.
@@ -10,6 +10,7 @@ ghost use Rattle.field.specs.Missing.{Within, Mends};
 
 use crate::column::{Sector, add_to, lower, solve};
 use crate::missing::Missing;
+use crate::part::Part;
 use crate::raising::{Doubling, Plain, Shifts};
 
 // P and Q of the data columns, into `p` and `q`, the doubles had by D.
@@ -31,17 +32,18 @@ pub fn parity<D: Doubling>(stripe: &[Sector], p: &mut Sector, q: &mut Sector) ->
 }
 
 // Makes P and Q anew from the data columns.
-pub fn make_parity(stripe: &mut [Sector]) -> usize
-    requires { Few (length stripe.old) }
-    ensures anew { Anew (length stripe.old) (held stripe.old) (held stripe.new) }
-    ensures good { (i : ℕ) → Good (held stripe.new i) }
-    ensures steps { result ≡ 192 * (length stripe.old - 2) }
+pub fn make_parity<T: Part>(stripe: &mut [T]) -> usize
+    requires { Few (length (T.cut stripe.old)) }
+    ensures anew { Anew (length (T.cut stripe.old)) (held (T.cut stripe.old)) (held (T.cut stripe.new)) }
+    ensures many { length (T.cut stripe.new) ≡ length (T.cut stripe.old) }
+    ensures good { (i : ℕ) → Good (held (T.cut stripe.new) i) }
+    ensures steps { result ≡ 192 * (length (T.cut stripe.old) - 2) }
 {
     let mut p = [0; 64];
     let mut q = [0; 64];
-    let steps = parity::<Shifts>(stripe, &mut p, &mut q);
-    stripe[0] = p;
-    stripe[1] = q;
+    let steps = parity::<Shifts>(T::columns(stripe), &mut p, &mut q);
+    T::write(stripe, 0, &p);
+    T::write(stripe, 1, &q);
     steps
 }
 
@@ -58,60 +60,64 @@ fn left(stripe: &[Sector], p: &mut Sector, q: &mut Sector) -> usize
 }
 
 // Data column i - 2 from P and the other data columns.
-fn from_p(stripe: &mut [Sector], i: usize) -> usize
-    requires few { Few (length stripe.old) }
-    requires data { (2 ≤ i) × (i < length stripe.old) }
-    ensures restored { Restores (length stripe.old) i 1 (held stripe.old) (held stripe.new) }
-    ensures steps { result ≡ 192 * (length stripe.old - 2) + 128 }
+fn from_p<T: Part>(stripe: &mut [T], i: usize) -> usize
+    requires few { Few (length (T.cut stripe.old)) }
+    requires data { (2 ≤ i) × (i < length (T.cut stripe.old)) }
+    ensures restored { Restores (length (T.cut stripe.old)) i 1 (held (T.cut stripe.old)) (held (T.cut stripe.new)) }
+    ensures many { length (T.cut stripe.new) ≡ length (T.cut stripe.old) }
+    ensures steps { result ≡ 192 * (length (T.cut stripe.old) - 2) + 128 }
 {
     let mut p = [0; 64];
     let mut q = [0; 64];
-    stripe[i] = [0; 64];
-    let steps = left(stripe, &mut p, &mut q);
-    stripe[i] = p;
+    T::write(stripe, i, &[0; 64]);
+    let steps = left(T::columns(stripe), &mut p, &mut q);
+    T::write(stripe, i, &p);
     steps
 }
 
 // Data column i - 2 from Q and the other data columns.
-fn from_q(stripe: &mut [Sector], i: usize) -> usize
-    requires few { Few (length stripe.old) }
-    requires data { (2 ≤ i) × (i < length stripe.old) }
-    ensures restored { Restores (length stripe.old) i 0 (held stripe.old) (held stripe.new) }
-    ensures steps { result ≡ 192 * (length stripe.old - 2) + 1152 }
+fn from_q<T: Part>(stripe: &mut [T], i: usize) -> usize
+    requires few { Few (length (T.cut stripe.old)) }
+    requires data { (2 ≤ i) × (i < length (T.cut stripe.old)) }
+    ensures restored { Restores (length (T.cut stripe.old)) i 0 (held (T.cut stripe.old)) (held (T.cut stripe.new)) }
+    ensures many { length (T.cut stripe.new) ≡ length (T.cut stripe.old) }
+    ensures steps { result ≡ 192 * (length (T.cut stripe.old) - 2) + 1152 }
 {
     let mut p = [0; 64];
     let mut q = [0; 64];
-    stripe[i] = [0; 64];
-    let steps = left(stripe, &mut p, &mut q);
+    T::write(stripe, i, &[0; 64]);
+    let steps = left(T::columns(stripe), &mut p, &mut q);
     let lowered = lower(&mut q, i - 2);
-    stripe[i] = q;
+    T::write(stripe, i, &q);
     steps + lowered
 }
 
 // Two data columns from P, Q and the other data columns.
-fn from_both(stripe: &mut [Sector], a: usize, b: usize) -> usize
-    requires few { Few (length stripe.old) }
-    requires data { (2 ≤ a) × ((a < b) × (b < length stripe.old)) }
-    ensures mended { MendsTwo (length stripe.old) a b (held stripe.old) (held stripe.new) }
-    ensures steps { result ≡ 192 * (length stripe.old - 2) + 2304 }
+fn from_both<T: Part>(stripe: &mut [T], a: usize, b: usize) -> usize
+    requires few { Few (length (T.cut stripe.old)) }
+    requires data { (2 ≤ a) × ((a < b) × (b < length (T.cut stripe.old))) }
+    ensures mended { MendsTwo (length (T.cut stripe.old)) a b (held (T.cut stripe.old)) (held (T.cut stripe.new)) }
+    ensures many { length (T.cut stripe.new) ≡ length (T.cut stripe.old) }
+    ensures steps { result ≡ 192 * (length (T.cut stripe.old) - 2) + 2304 }
 {
     let mut p = [0; 64];
     let mut q = [0; 64];
-    stripe[a] = [0; 64];
-    stripe[b] = [0; 64];
-    let steps = left(stripe, &mut p, &mut q);
+    T::write(stripe, a, &[0; 64]);
+    T::write(stripe, b, &[0; 64]);
+    let steps = left(T::columns(stripe), &mut p, &mut q);
     let solved = solve(&mut p, &mut q, a - 2, b - 2);
-    stripe[a] = p;
-    stripe[b] = q;
+    T::write(stripe, a, &p);
+    T::write(stripe, b, &q);
     steps + solved
 }
 
 // Columns a and b from the others.
-pub fn mend_two(stripe: &mut [Sector], a: usize, b: usize) -> usize
-    requires few { Few (length stripe.old) }
-    requires within { (a < b) × (b < length stripe.old) }
-    ensures mended { MendsTwo (length stripe.old) a b (held stripe.old) (held stripe.new) }
-    ensures steps { result ≤ 384 * (length stripe.old - 2) + 2304 }
+pub fn mend_two<T: Part>(stripe: &mut [T], a: usize, b: usize) -> usize
+    requires few { Few (length (T.cut stripe.old)) }
+    requires within { (a < b) × (b < length (T.cut stripe.old)) }
+    ensures mended { MendsTwo (length (T.cut stripe.old)) a b (held (T.cut stripe.old)) (held (T.cut stripe.new)) }
+    ensures many { length (T.cut stripe.new) ≡ length (T.cut stripe.old) }
+    ensures steps { result ≤ 384 * (length (T.cut stripe.old) - 2) + 2304 }
 {
     if a >= 2 {
         from_both(stripe, a, b)
@@ -127,11 +133,12 @@ pub fn mend_two(stripe: &mut [Sector], a: usize, b: usize) -> usize
 }
 
 // All columns, from those that aren't missing.
-pub fn mend(stripe: &mut [Sector], missing: Missing) -> usize
-    requires few { Few (length stripe.old) }
-    requires within { Within (length stripe.old) missing }
-    ensures mended { Mends (length stripe.old) missing (held stripe.old) (held stripe.new) }
-    ensures steps { result ≤ 384 * (length stripe.old - 2) + 2304 }
+pub fn mend<T: Part>(stripe: &mut [T], missing: Missing) -> usize
+    requires few { Few (length (T.cut stripe.old)) }
+    requires within { Within (length (T.cut stripe.old)) missing }
+    ensures mended { Mends (length (T.cut stripe.old)) missing (held (T.cut stripe.old)) (held (T.cut stripe.new)) }
+    ensures many { length (T.cut stripe.new) ≡ length (T.cut stripe.old) }
+    ensures steps { result ≤ 384 * (length (T.cut stripe.old) - 2) + 2304 }
 {
     match missing {
         Missing::Nothing => 0,
@@ -147,12 +154,13 @@ pub fn mend(stripe: &mut [Sector], missing: Missing) -> usize
 }
 
 // Puts `words` in for data column j, and makes P and Q anew.
-pub fn put(stripe: &mut [Sector], j: usize, words: &Sector) -> usize
-    requires few { Few (length stripe.old) }
-    requires within { 2 + j < length stripe.old }
-    ensures done { Put (length stripe.old) j words.now (held stripe.old) (held stripe.new) }
-    ensures steps { result ≡ 192 * (length stripe.old - 2) }
+pub fn put<T: Part>(stripe: &mut [T], j: usize, words: &Sector) -> usize
+    requires few { Few (length (T.cut stripe.old)) }
+    requires within { 2 + j < length (T.cut stripe.old) }
+    ensures done { Put (length (T.cut stripe.old)) j words.now (held (T.cut stripe.old)) (held (T.cut stripe.new)) }
+    ensures many { length (T.cut stripe.new) ≡ length (T.cut stripe.old) }
+    ensures steps { result ≡ 192 * (length (T.cut stripe.old) - 2) }
 {
-    stripe[2 + j] = *words;
+    T::write(stripe, 2 + j, words);
     make_parity(stripe)
 }

@@ -62,6 +62,22 @@ mod tests {
         assert_eq!(rt; (stripe[4][0], stripe[4][63]), (9, 9));
     }
 
+    // The same in words, one column behind the other.
+    #[test]
+    fn six_columns_in_words(rt: HostRuntime) {
+        let mut words = [0u64; 384];
+        let _ = field::put(&mut words, 0, &[7; 64]);
+        let _ = field::put(&mut words, 1, &[8; 64]);
+        let _ = field::put(&mut words, 2, &[9; 64]);
+        let _ = field::put(&mut words, 3, &[10; 64]);
+        assert_eq!(rt; (words[0], words[64]), (12, 99));
+        words[192] = 0xdead_beef;
+        words[319] = 0xdead_beef;
+        assert_eq!(rt; field::mend(&mut words, Missing::Two(3, 4)), 3072);
+        assert_eq!(rt; (words[192], words[255]), (8, 8));
+        assert_eq!(rt; (words[256], words[319]), (9, 9));
+    }
+
     // Numbers in no order.
     fn scatter(stripe: &mut [Sector]) {
         let mut x = 1u64;

@@ -93,8 +93,8 @@ impl<'a> Diary<'a> {
     // Nothing was seen yet.
     #[tactic(auto, unfolding(crate::specs::Words::events_of, crate::specs::Words::latest))]
     pub fn new(words: &'a mut [u64]) -> Diary<'a>
-        ensures unseen { seen_of result ≡ [] }
         ensures empty { result.noted ≡ 0 }
+        ensures unseen { seen_of result ≡ [] }
     {
         Diary { words, noted: 0 }
     }
@@ -104,8 +104,8 @@ impl Diary<'_> {
     // Nothing was seen, as `new` has it.
     #[tactic(auto, unfolding(crate::specs::Words::events_of, crate::specs::Words::latest))]
     pub fn clear(&mut self)
-        ensures unseen { seen_of self.new ≡ [] }
         ensures empty { self.new.noted ≡ 0 }
+        ensures unseen { seen_of self.new ≡ [] }
     {
         self.noted = 0;
     }

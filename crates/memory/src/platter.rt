@@ -134,7 +134,7 @@ impl Platter<'_> {
         self.lay(at, shown, words);
     }
 
-    // Only the first so many stay listed: what is shown of all others lasts.
+    // So many of the list are listed from now on: what is shown of all others lasts.
     pub fn truncate(&mut self, listed: usize)
         ensures { self.new ≡ listing listed self.old }
     {

@@ -1,18 +1,20 @@
-use Rattle.std.proofs.Common.{◌≡◌, ℕ, List, length, replicate, set, refl, subst, arith}
-use Rattle.std.proofs.lemmas.List.{length-set}
+use Rattle.std.proofs.Common.{ℕ, List, length, replicate, refl, subst, arith}
 use Rattle.field.specs.Column.{Sector}
 use Rattle.field.specs.Stripe.{held, Left}
-use Rattle.field.proofs.Slices.{written}
+use Rattle.field.proofs.Slices.{written_as}
 use Rattle.field.proofs.Mending.{restores_p}
 use Rattle.field.proofs.stripe.from_p.Goals as goal
 
 pub returns-clause-restored : goal.returns-clause-restored
-returns-clause-restored c =
-    let s : List Sector = c.args.stripe.now in
+returns-clause-restored g c =
+    let s : List Sector = g.T.Part.cut c.args.stripe.now in
+    let u : List Sector = g.T.Part.cut c.write.new.stripe in
+    let t : List Sector = g.T.Part.cut c.write-2.new.stripe in
     let i : ℕ = c.args.i in
+    let z : Sector = replicate 64 0 in
     let p : Sector = c.left-steps.new.p in
     let q : Sector = c.left-steps.new.q in
-    let u : List Sector = set s i (replicate 64 0) in
-    let l : length u ≡ length s = length-set s i (replicate 64 0) in
-    restores_p (length s) i (held s) (held u) (held (set u i p)) (replicate 64 0) p q (omega arith) (omega arith) (omega arith) (omega arith) refl
-    (written i (replicate 64 0) s (omega arith)) (subst (λ (k : ℕ). Left k (held u) p q) l c.left-steps.ensures.value) (written i p u (omega arith))
+    let left : Left (length s) (held u) p q
+    = subst (λ (k : ℕ). Left k (held u) p q) c.write.ensures.many (subst (λ (r : List Sector). Left (length r) (held r) p q) c.columns.ensures c.left-steps.ensures.value) in
+    restores_p (length s) i (held s) (held u) (held t) z p q (omega arith) (omega arith) (omega arith) (omega arith) refl
+    (written_as i z s u (omega arith) c.write.ensures.set) left (written_as i p u t (omega arith) c.write-2.ensures.set)
