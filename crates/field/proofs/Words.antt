@@ -70,6 +70,13 @@ chunks_set i m s ys w h l em e =
       | inr ne ↦ wr.others j ne ∙ sym (cut_at n s j k) ∙ sym (get_or-set_other cs i j w noughts ne)
     ])
 
+-- and what stands behind the last column stays
+pub rest_kept : (i m : ℕ) (s ys : List ℕ) → 64 * i + 64 ≤ length s → length ys ≡ 64 → m ≡ 64
+    → drop (64 * (length (put_mid (64 * i) m s ys) / 64)) (put_mid (64 * i) m s ys) ≡ drop (64 * (length s / 64)) s
+rest_kept i m s ys h l em =
+    let n : length (put_mid (64 * i) m s ys) ≡ length s = length_put (64 * i) m s ys (omega arith) (l ∙ sym em) in
+    ap (λ (x : ℕ). drop (64 * (x / 64)) (put_mid (64 * i) m s ys)) n ∙ drop-put_mid (64 * i) m s ys (64 * (length s / 64)) (omega arith) (omega arith) (l ∙ sym em)
+
 pub cut_up : (k n : ℕ) (s : List ℕ) (cs : List Sector) → 4 ≤ k → k ≤ 12 → length s ≡ 64 * k → length cs ≡ n → n ≡ k → cs ≡ first_chunks 64 n s → Cut k s cs
 cut_up k n s cs few most l lc en e = record {
   few = (few, most);

@@ -1,4 +1,5 @@
-// A stripe of 4 to 12 columns, in a slice of columns or of words: column 0 is P, 1 is Q, 2 + j is data column j.
+// A stripe of 4 to 12 columns, in a slice of columns or of words: column 0 is P, 1 is Q, 2 + j is data column j. Words behind the last whole
+// column stay as they are.
 // It touches nothing but the slice that it is lent, and tells its steps: each sum and each doubling of a word is one.
 //
 // That there are 4 to 12 columns stands in each contract: a struct round the slice that is lent would have to promise in each method, in
@@ -36,6 +37,7 @@ pub fn make_parity<T: Part>(stripe: &mut [T]) -> usize
     requires { Few (length (T.cut stripe.old)) }
     ensures anew { Anew (length (T.cut stripe.old)) (held (T.cut stripe.old)) (held (T.cut stripe.new)) }
     ensures many { length (T.cut stripe.new) ≡ length (T.cut stripe.old) }
+    ensures behind { T.rest stripe.new ≡ T.rest stripe.old }
     ensures good { (i : ℕ) → Good (held (T.cut stripe.new) i) }
     ensures steps { result ≡ 192 * (length (T.cut stripe.old) - 2) }
 {
@@ -65,6 +67,7 @@ fn from_p<T: Part>(stripe: &mut [T], i: usize) -> usize
     requires data { (2 ≤ i) × (i < length (T.cut stripe.old)) }
     ensures restored { Restores (length (T.cut stripe.old)) i 1 (held (T.cut stripe.old)) (held (T.cut stripe.new)) }
     ensures many { length (T.cut stripe.new) ≡ length (T.cut stripe.old) }
+    ensures behind { T.rest stripe.new ≡ T.rest stripe.old }
     ensures steps { result ≡ 192 * (length (T.cut stripe.old) - 2) + 128 }
 {
     let mut p = [0; 64];
@@ -81,6 +84,7 @@ fn from_q<T: Part>(stripe: &mut [T], i: usize) -> usize
     requires data { (2 ≤ i) × (i < length (T.cut stripe.old)) }
     ensures restored { Restores (length (T.cut stripe.old)) i 0 (held (T.cut stripe.old)) (held (T.cut stripe.new)) }
     ensures many { length (T.cut stripe.new) ≡ length (T.cut stripe.old) }
+    ensures behind { T.rest stripe.new ≡ T.rest stripe.old }
     ensures steps { result ≡ 192 * (length (T.cut stripe.old) - 2) + 1152 }
 {
     let mut p = [0; 64];
@@ -98,6 +102,7 @@ fn from_both<T: Part>(stripe: &mut [T], a: usize, b: usize) -> usize
     requires data { (2 ≤ a) × ((a < b) × (b < length (T.cut stripe.old))) }
     ensures mended { MendsTwo (length (T.cut stripe.old)) a b (held (T.cut stripe.old)) (held (T.cut stripe.new)) }
     ensures many { length (T.cut stripe.new) ≡ length (T.cut stripe.old) }
+    ensures behind { T.rest stripe.new ≡ T.rest stripe.old }
     ensures steps { result ≡ 192 * (length (T.cut stripe.old) - 2) + 2304 }
 {
     let mut p = [0; 64];
@@ -117,6 +122,7 @@ pub fn mend_two<T: Part>(stripe: &mut [T], a: usize, b: usize) -> usize
     requires within { (a < b) × (b < length (T.cut stripe.old)) }
     ensures mended { MendsTwo (length (T.cut stripe.old)) a b (held (T.cut stripe.old)) (held (T.cut stripe.new)) }
     ensures many { length (T.cut stripe.new) ≡ length (T.cut stripe.old) }
+    ensures behind { T.rest stripe.new ≡ T.rest stripe.old }
     ensures steps { result ≤ 384 * (length (T.cut stripe.old) - 2) + 2304 }
 {
     if a >= 2 {
@@ -138,6 +144,7 @@ pub fn mend<T: Part>(stripe: &mut [T], missing: Missing) -> usize
     requires within { Within (length (T.cut stripe.old)) missing }
     ensures mended { Mends (length (T.cut stripe.old)) missing (held (T.cut stripe.old)) (held (T.cut stripe.new)) }
     ensures many { length (T.cut stripe.new) ≡ length (T.cut stripe.old) }
+    ensures behind { T.rest stripe.new ≡ T.rest stripe.old }
     ensures steps { result ≤ 384 * (length (T.cut stripe.old) - 2) + 2304 }
 {
     match missing {
@@ -159,6 +166,7 @@ pub fn put<T: Part>(stripe: &mut [T], j: usize, words: &Sector) -> usize
     requires within { 2 + j < length (T.cut stripe.old) }
     ensures done { Put (length (T.cut stripe.old)) j words.now (held (T.cut stripe.old)) (held (T.cut stripe.new)) }
     ensures many { length (T.cut stripe.new) ≡ length (T.cut stripe.old) }
+    ensures behind { T.rest stripe.new ≡ T.rest stripe.old }
     ensures steps { result ≡ 192 * (length (T.cut stripe.old) - 2) }
 {
     T::write(stripe, 2 + j, words);

@@ -14,4 +14,10 @@ returns g c =
     (subst (λ (r : List Sector). IsP (length r - 2) (data_of (held r)) p) e c.parity-steps.ensures.is_p)
     (subst (λ (r : List Sector). IsQ (length r - 2) (data_of (held r)) q) e c.parity-steps.ensures.is_q)
     (subst (λ (r : List Sector). (j : ℕ) → Good (held r (2 + j))) e c.parity-steps.ensures.good) in
-    record { anew = w.0; many = c.write-2.ensures.many ∙ c.write.ensures.many; good = w.1; steps = c.parity-steps.ensures.steps ∙ ap (λ (r : List Sector). 192 * (length r - 2)) e }
+    record {
+      anew = w.0;
+      many = c.write-2.ensures.many ∙ c.write.ensures.many;
+      behind = c.write-2.ensures.behind ∙ c.write.ensures.behind;
+      good = w.1;
+      steps = c.parity-steps.ensures.steps ∙ ap (λ (r : List Sector). 192 * (length r - 2)) e;
+    }
