@@ -22,6 +22,7 @@ pub written : (i : ℕ) (w : Sector) (s : List Sector) → i < length s → Writ
 unfolding held
 written i w s h = record { here = get_or-set_same s i w noughts h; others = λ e ne. get_or-set_other s i e w noughts ne }
 
+-- the same, of a slice that is known to be that
 pub written_as : (i : ℕ) (w : Sector) (s t : List Sector) → i < length s → t ≡ set s i w → Written i w (held s) (held t)
 written_as i w s t h e = subst (λ (r : List Sector). Written i w (held s) (held r)) (sym e) (written i w s h)
 
@@ -51,6 +52,7 @@ anew s p q few is_p is_q h =
       ],
     )
 
+-- the same, of slices that are known to be those
 pub anew_as : (s u t : List Sector) (p q : Sector) → 2 ≤ length s → u ≡ set s 0 p → t ≡ set u 1 q → IsP (length s - 2) (data_of (held s)) p → IsQ (length s - 2) (data_of (held s)) q → ((j : ℕ) → Good (held s (2 + j)))
     → Anew (length s) (held s) (held t) × ((i : ℕ) → Good (held t i))
 anew_as s u t p q few e f is_p is_q h =

@@ -40,10 +40,12 @@ cut_at zero s i h = absurd (omega arith)
 cut_at (suc k) s zero h = refl
 cut_at (suc k) s (suc i) h = let e : 64 + 64 * i ≡ 64 * suc i = omega arith in cut_at k (drop 64 s) i (omega arith) ∙ ap (take 64) (drop-drop (64 * i) 64 s ∙ ap (λ (n : ℕ). drop n s) e)
 
+-- there are as many chunks as were asked for
 pub chunks_many : (n k : ℕ) (xs : List ℕ) → length (first_chunks n k xs) ≡ k
 chunks_many n zero xs = refl
 chunks_many n (suc k) xs = ap suc (chunks_many n k (drop n xs))
 
+-- a write leaves a slice as long as it was
 length_put : (a k : ℕ) (xs ys : List ℕ) → a + k ≤ length xs → length ys ≡ k → length (put_mid a k xs ys) ≡ length xs
 length_put a k xs ys h e =
     let whole : length (take a xs ++ (ys ++ drop k (drop a xs))) ≡ length xs

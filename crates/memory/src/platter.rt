@@ -47,7 +47,7 @@ impl Platter<'_> {
         ensures size { length self.new.cells.now ≡ length self.old.cells.now }
     {
         self.cells.fill(BLANK);
-        self.truncate(0);
+        self.set_listed(0);
     }
 
     // How many sectors each disk has.
@@ -135,7 +135,7 @@ impl Platter<'_> {
     }
 
     // So many of the list are listed from now on: what is shown of all others lasts.
-    pub fn truncate(&mut self, listed: usize)
+    pub fn set_listed(&mut self, listed: usize)
         ensures { self.new ≡ listing listed self.old }
     {
         self.written = listed;
@@ -165,6 +165,6 @@ impl Platter<'_> {
         for i in 0..self.written.min(self.cells.len()) {
             self.choose_one(i, seed);
         }
-        self.truncate(0);
+        self.set_listed(0);
     }
 }

@@ -64,7 +64,7 @@ impl<'a> Disks for Memory<'a> {
         match self.plan.asked(&mut self.state, &mut self.diary) {
             Power::Gone | Power::Goes => Answer::Dark,
             Power::Stays => {
-                self.platter.truncate(0);
+                self.platter.set_listed(0);
                 Answer::Fine
             }
         }
