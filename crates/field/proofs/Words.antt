@@ -102,6 +102,29 @@ module _ (k : ℕ) (s : List ℕ) (cs : List Sector) (cut : Cut k s cs) where
   pub q_of_words : (q : Sector) → IsQ (length cs - 2) (data_of (held cs)) q → IsQ (k - 2) (data_of (λ i. column i s)) q
   q_of_words q is = (nothing_behind_lem (k - 2) (data_of (held cs)) (data_of (λ i. column i s)) same_data).1 q (subst (λ (n : ℕ). IsQ (n - 2) (data_of (held cs)) q) cut.long is)
 
+  -- words in which P and Q of the columns were written, one after the other, have P and Q anew
+  pub anew_words : (u t : List ℕ) (p q : Sector) → IsP (length cs - 2) (data_of (held cs)) p → IsQ (length cs - 2) (data_of (held cs)) q
+      → Written 0 p (λ i. column i s) (λ i. column i u) → Written 1 q (λ i. column i u) (λ i. column i t) → Anew k (λ i. column i s) (λ i. column i t)
+  anew_words u t p q is_p is_q first second = record {
+    is_p = subst (IsP (k - 2) (data_of (λ i. column i s))) (sym (second.others 0 (λ e. omega arith) ∙ first.here)) (p_of_words p is_p);
+    is_q = subst (IsQ (k - 2) (data_of (λ i. column i s))) (sym second.here) (q_of_words q is_q);
+    others = λ e l. second.others e (λ n. omega arith) ∙ first.others e (λ n. omega arith);
+  }
+
+  -- words in which two columns of a mended copy were written, one after the other, are mended
+  pub mends_words : (a b : ℕ) (w : List Sector) (u t : List ℕ) (p q : Sector) → a < b → b < k → MendsTwo (length cs) a b (held cs) (held w) → p ≡ held w a → q ≡ held w b
+      → Written a p (λ i. column i s) (λ i. column i u) → Written b q (λ i. column i u) (λ i. column i t) → MendsTwo k a b (λ i. column i s) (λ i. column i t)
+  mends_words a b w u t p q ab lb mends ep eq first second c cw but i h =
+      let na : a ≢ b = λ e. omega arith in
+      let all = mends c (subst (λ (n : ℕ). Codeword n c) (sym cut.long) cw) (λ e l ea eb. cut.same e (omega (arith, cut.long)) ∙ but e (omega (arith, cut.long)) ea eb) in
+      elim (cases_eq i b) [
+        | inl e ↦ ap (λ (n : ℕ). column n t) e ∙ second.here ∙ eq ∙ all b (omega (arith, cut.long)) ∙ ap c (sym e)
+        | inr nb ↦ second.others i nb ∙ elim (cases_eq i a) [
+          | inl e ↦ ap (λ (n : ℕ). column n u) e ∙ first.here ∙ ep ∙ all a (omega (arith, cut.long)) ∙ ap c (sym e)
+          | inr ne ↦ first.others i ne ∙ but i h ne nb
+        ]
+      ]
+
 -- What is done to the columns is done to the words.
 module _ (k : ℕ) (s t : List ℕ) (few : Few k) (l : length s ≡ 64 * k) (e : length t ≡ length s) where
   abbrev pub cs : List Sector
@@ -119,8 +142,8 @@ module _ (k : ℕ) (s t : List ℕ) (few : Few k) (l : length s ≡ 64 * k) (e :
   behind : (i : ℕ) → k ≤ i → column i t ≡ column i s
   behind i h = ap (take 64) (drop_all (64 * i) t (omega arith) ∙ sym (drop_all (64 * i) s (omega arith)))
 
-  pub anew_words : Anew (length cs) (held cs) (held ds) → Anew k (λ i. column i s) (λ i. column i t)
-  anew_words a = record {
+  pub chunks_anew : Anew (length cs) (held cs) (held ds) → Anew k (λ i. column i s) (λ i. column i t)
+  chunks_anew a = record {
     is_p = subst (IsP (k - 2) (data_of (λ i. column i s))) (new.same 0 (omega (arith, few))) (p_of_words k s cs old (held ds 0) a.is_p);
     is_q = subst (IsQ (k - 2) (data_of (λ i. column i s))) (new.same 1 (omega (arith, few))) (q_of_words k s cs old (held ds 1) a.is_q);
     others = λ i h. elim (cases_lt i k) [
@@ -129,7 +152,7 @@ module _ (k : ℕ) (s t : List ℕ) (few : Few k) (l : length s ≡ 64 * k) (e :
     ];
   }
 
-  pub mends_words : (a b : ℕ) → MendsTwo (length cs) a b (held cs) (held ds) → MendsTwo k a b (λ i. column i s) (λ i. column i t)
-  mends_words a b m c cw but i h =
+  pub chunks_mend : (a b : ℕ) → MendsTwo (length cs) a b (held cs) (held ds) → MendsTwo k a b (λ i. column i s) (λ i. column i t)
+  chunks_mend a b m c cw but i h =
       sym (new.same i h)
       ∙ m c (subst (λ (n : ℕ). Codeword n c) (sym old.long) cw) (λ j lj ea eb. old.same j (omega (arith, old.long)) ∙ but j (omega (arith, old.long)) ea eb) i (omega (arith, old.long))

@@ -1,6 +1,6 @@
 use Rattle.std.proofs.Common.{◌≡◌, length, sym, subst, rules, arith}
 use Rattle.field.specs.Stripe.{Few}
-use Rattle.field.proofs.Words.{chunks_cut, mends_words}
+use Rattle.field.proofs.Words.{chunks_cut, chunks_mend}
 use Rattle.field.proofs.lent.try_mend.Goals as goal
 
 pub mend_two-requires-clause-few : goal.mend_two-requires-clause-few
@@ -18,4 +18,4 @@ pub returns-clause-made : goal.returns-clause-made
 returns-clause-made c =
     let f = c.fits.ensures.0 c.if-not-fits.false in
     let l : length c.mend_two.new.stripe ≡ length c.args.stripe.now = search rules in
-    mends_words c.args.k c.args.stripe.now c.mend_two.new.stripe f.0 f.1 l c.args.a c.args.b c.mend_two.ensures.mended
+    chunks_mend c.args.k c.args.stripe.now c.mend_two.new.stripe f.0 f.1 l c.args.a c.args.b c.mend_two.ensures.mended
